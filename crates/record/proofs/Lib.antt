@@ -1,0 +1,9 @@
+-- The laws that proofs here and above cite: numbers made of bytes, keys and their order, the named sub-codes, the decoded
+-- record; stretches of zeros, the shapes of kinds, and what a record that draws no refusal has.
+pub mod Numbers
+pub mod Keys
+pub mod Names
+pub mod Records
+pub mod Shapes
+pub mod Zeros
+pub mod Sound

@@ -1,0 +1,16 @@
+-- The byte is where the decoded record has it.
+use mathlib.Core.Path.{refl}
+use borrow.Author.Needs.{needs}
+use Rattle.record.specs.Records.{decode}
+use Rattle.record.proofs.field.code.Statement.{statement}
+use Rattle.record.proofs.field.code.Tie as tie
+
+shared-slice-read-result : tie.Need-shared-slice-read-result
+shared-slice-read-result c = search needs
+
+returns : tie.Need-returns
+unfolding decode
+returns c = refl
+
+pub code-spec : {M : Type 1} → statement M
+code-spec = tie.close (tie.spec shared-slice-read-result returns)

@@ -1,0 +1,19 @@
+-- The table of examples: the rules' answer to every row is the row's report. The checker computes all of them at once.
+use mathlib.Core.Path.{_≡_, refl}
+use mathlib.Core.List.{map}
+use Rattle.record.specs.Keys.{keyLtb, listEqb}
+use Rattle.record.specs.Numbers.{bigEndianFrom}
+use Rattle.rules.specs.History.{anyOf, those, latestOf, earliestOf, greatestOf, lowestOf, told, latest, firsts}
+use Rattle.rules.specs.Cases.{earliestCase, firstCase}
+use Rattle.rules.specs.Descriptors.{heldBy, heldEqb, applied, reached, roleOf, standing, stated, beforeIn, atIn, firstAtGenerationIn, putFault, putsDiffer, aheadFault, differsFault, statementFault, agreement, before, firstAtGeneration}
+use Rattle.rules.specs.IdsUnique.{firstGrants, grantEqb, blocksOf, idsAt}
+use Rattle.rules.specs.OneOwnerPerKey.{heldSpan, rangesOf, lowestMeeting, overlapAt, groupOf, isNamed, installAt, twiceAt}
+use Rattle.rules.specs.GenerationsRise.{writes, generationsAt}
+use Rattle.rules.specs.RightHalf.{serverOf, isRestated, pending, registered, registers, recorded, hasApplied, debtAt, owes, restatedWith, missingFault, nodesOf, registeringFault, halfAt}
+use Rattle.rules.specs.MetaNeverGoesBack.{names, standingName, keyFault, bounds, leastKey, wonFault, metaAt}
+use Rattle.rules.specs.Reports.{reportOf}
+use Rattle.rules.specs.Examples.{Row, table, answer}
+
+pub examples : map answer table ≡ map (λ (r : Row). r .report) table
+unfolding keyLtb listEqb bigEndianFrom anyOf those latestOf earliestOf greatestOf lowestOf told latest firsts earliestCase firstCase heldBy heldEqb applied reached roleOf standing stated beforeIn atIn firstAtGenerationIn putFault putsDiffer aheadFault differsFault statementFault agreement before firstAtGeneration firstGrants grantEqb blocksOf idsAt heldSpan rangesOf lowestMeeting overlapAt groupOf isNamed installAt twiceAt writes generationsAt serverOf isRestated pending registered registers recorded hasApplied debtAt owes restatedWith missingFault nodesOf registeringFault halfAt names standingName keyFault bounds leastKey wonFault metaAt reportOf
+examples = refl

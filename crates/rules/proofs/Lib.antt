@@ -1,0 +1,28 @@
+-- What is proved of the rules: the table of examples, and the laws that show what the definitions mean.
+pub mod Examples
+-- lists and look-backs: steps for one more record, and what each finds
+pub mod Booleans
+pub mod Skips
+pub mod Members
+pub mod Placed
+pub mod Best
+pub mod Firsts
+pub mod Numbered
+pub mod Once
+pub mod CaseLists
+-- reports
+pub mod Beginnings
+pub mod Reports
+-- descriptors
+pub mod Standing
+pub mod LookUps
+-- ids
+pub mod Blocks
+-- owners, and the right half
+pub mod Debts
+pub mod Candidates
+pub mod Owed
+pub mod Traced
+-- meta
+pub mod KeyLists
+pub mod MetaLeast

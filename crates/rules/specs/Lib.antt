@@ -1,0 +1,11 @@
+-- Document 01's rules as definitions: each check over the history of the records taken, and what is reported of it.
+pub mod History
+pub mod Cases
+pub mod Descriptors
+pub mod IdsUnique
+pub mod OneOwnerPerKey
+pub mod GenerationsRise
+pub mod RightHalf
+pub mod MetaNeverGoesBack
+pub mod Reports
+pub mod Examples

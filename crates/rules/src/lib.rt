@@ -1,0 +1,34 @@
+// The types that the rules and the crates above share: what a check says of a record, and what it reports of a trace.
+
+// The five numbers of a fault, missing ones 0.
+pub struct Evidence {
+    pub e0: u64,
+    pub e1: u64,
+    pub e2: u64,
+    pub e3: u64,
+    pub e4: u64,
+}
+
+// What a check says of a record, judged by it and those before: nothing, or a fault with its kind and evidence.
+pub enum Case {
+    Clear,
+    Fault(u8, Evidence),
+}
+
+pub enum Verdict {
+    Pass,
+    Faulted(u8),
+}
+
+// What a check reports of a trace: a pass, or its first fault's kind, with that fault's position and evidence beside it.
+pub struct Report {
+    pub verdict: Verdict,
+    pub at: u64,
+    pub evidence: Evidence,
+}
+
+// The number of the record that a look-up finds.
+pub enum Found {
+    At(u64),
+    Nothing,
+}
