@@ -2,17 +2,17 @@
 use mathlib.Core.Path.{_≡_, refl, sym, ap, _∙_}
 use mathlib.Core.Bool.{Bool, true, false, _&&_, and-assoc, and-true}
 use mathlib.Core.List.{List, [], _∷_}
-use Prim.Native.Nat.{ℕ, suc, _+_, _-_, _*_, _≤_, _<_}
+use Prim.Native.Nat.{ℕ, suc, _+_, _-_, _*_, _≤_, _<_, max}
 use native.Mathlib.Numerals.{add-one}
 use native.Mathlib.Omega.{arith}
-use lib.Bits.{bitOr, or-add-and, and-le-l, and-le-r}
-use lib.ListN.{length, getD, drop, length-drop, drop-of-length-le}
-use lib.Seq.{drop-cons, take-all, getD-take, getD-drop}
-use lib.Dec.{eqb}
-use borrow.Author.Tests.{eqb-true, eqb-false, eq-eqb, ne-eqb}
+use lib.Bits.{bitAnd, bitOr, and-zero-r, or-zero-r, or-add-and, and-le-l, and-le-r, and-mask}
+use lib.ListN.{length, getD, drop, replicate, drop-of-length-le, getD-replicate, List·getD-append}
+use lib.Seq.{drop-cons, getD-append-add, getD-take, getD-drop}
+use lib.Dec.{eqb, leb}
+use borrow.Author.Tests.{leb-true, leb-false, eqb-true, eqb-false, eq-eqb, ne-eqb}
 use Rattle.record.specs.Limits.{spansAt}
 use Rattle.record.specs.Numbers.{part}
-use Rattle.record.specs.Form.{allZero, padded, every, placesFrom}
+use Rattle.record.specs.Form.{allZero, padded, paddingBits, every, placesFrom}
 
 or-zero-by : (a b : ℕ) (x y : Bool) → eqb a 0 ≡ x → eqb b 0 ≡ y → eqb (bitOr a b) 0 ≡ (x && y)
 or-zero-by a b true true p q = let z = eqb-true a 0 p in let w = eqb-true b 0 q in eq-eqb (bitOr a b) 0 (omega (arith, or-add-and a b))
@@ -92,10 +92,52 @@ length-byte s q =
     let l : 0 < 32 = omega arith in
     rw (m, getD-take 32 (drop q s) 0 0 l, getD-drop, z)
 
--- a part up to the end is what is left from its start on
-pub part-to-end : (a n : ℕ) (s : List ℕ) → length s ≡ n → part a n s ≡ drop a s
-part-to-end a n s h = take-all (n - a) (drop a s) (omega (arith, length-drop a s))
-
 -- a length byte past the place leaves no padding
 pub no-padding : (place : List ℕ) → length place ≤ 1 + getD place 0 0 → padded place ≡ true
 no-padding place h = rw (drop-of-length-le place h, all-zero-nil)
+
+bits-low : (k : ℕ) → k < 32 → getD paddingBits k 0 ≡ 0
+bits-low k h = List·getD-append (replicate 32 0) (replicate 31 255) 0 k h ∙ getD-replicate 32 k 0 0 h
+
+bits-high : (k : ℕ) → k < 31 → getD paddingBits (32 + k) 0 ≡ 255
+bits-high k h = getD-append-add (replicate 32 0) (replicate 31 255) k 0 ∙ getD-replicate 31 k 255 0 h
+
+-- the padding before i is all zero exactly when its bits, seen, are none
+pub record Masked (place : List ℕ) (seen i : ℕ) : Type 0 where
+  pub within : i ≤ 32
+  pub is : padded place ≡ (eqb seen 0 && allZero (drop (max i (1 + getD place 0 0)) place))
+
+pub masked-start : (place : List ℕ) → Masked place 0 0
+masked-start place =
+    let m : max 0 (1 + getD place 0 0) ≡ 1 + getD place 0 0 = omega arith in
+    record { within = omega arith; is = rw m }
+
+module _ (place : List ℕ) (seen i from : ℕ) (len : length place ≡ 32) (fits : getD place 0 0 ≤ 31) (start : from ≡ 31 - getD place 0 0) (byte : getD place i 0 < 256) (l : i < 32) where
+  -- a byte of the key changes nothing
+  masked-key : Masked place seen i → i ≤ getD place 0 0 → Masked place (bitOr seen (bitAnd (getD place i 0) (getD paddingBits (from + i) 0))) (i + 1)
+  masked-key h k =
+      let e : getD paddingBits (from + i) 0 ≡ 0 = bits-low (from + i) (omega arith) in
+      let m : max (i + 1) (1 + getD place 0 0) ≡ max i (1 + getD place 0 0) = omega arith in
+      record { within = omega arith; is = h .is ∙ rw (m, e, and-zero-r, or-zero-r) }
+
+  -- a byte of the padding counts
+  masked-padding : Masked place seen i → getD place 0 0 < i → Masked place (bitOr seen (bitAnd (getD place i 0) (getD paddingBits (from + i) 0))) (i + 1)
+  masked-padding h k =
+      let q : from + i ≡ 32 + (from + i - 32) = omega arith in
+      let e : getD paddingBits (from + i) 0 ≡ 255 = ap (λ (n : ℕ). getD paddingBits n 0) q ∙ bits-high (from + i - 32) (omega arith) in
+      let b : bitAnd (getD place i 0) 255 ≡ getD place i 0 = and-mask (getD place i 0) 8 ∙ omega arith in
+      let m : max i (1 + getD place 0 0) ≡ i = omega arith in
+      let n : max (i + 1) (1 + getD place 0 0) ≡ i + 1 = omega arith in
+      record { within = omega arith; is = h .is ∙ rw (m, n, e, b, zero-step place i (omega arith), or-zero, and-assoc) }
+
+  masked-by : (t : Bool) → leb i (getD place 0 0) ≡ t → Masked place seen i → Masked place (bitOr seen (bitAnd (getD place i 0) (getD paddingBits (from + i) 0))) (i + 1)
+  masked-by true e h = masked-key h (leb-true _ _ e)
+  masked-by false e h = masked-padding h (leb-false _ _ e)
+
+  pub masked-turn : (bits : List ℕ) → bits ≡ paddingBits → Masked place seen i → Masked place (bitOr seen (bitAnd (getD place i 0) (getD bits (from + i) 0))) (i + 1)
+  masked-turn bits e h = rw e (masked-by _ refl h)
+
+pub masked-end : {place : List ℕ} {seen i : ℕ} → Masked place seen i → length place ≡ 32 → 32 ≤ i → eqb seen 0 ≡ padded place
+masked-end {place} {seen} {i} h e l =
+    let m : length place ≤ max i (1 + getD place 0 0) = omega arith in
+    sym (h .is ∙ rw (drop-of-length-le place m, all-zero-nil, and-true))

@@ -1,8 +1,8 @@
 -- The refusal of any list of bytes by its form: 1, 2, 3, 4 or none, in that order, as document 01's table has them.
 use mathlib.Core.Bool.{Bool, true, false, cond, not, _&&_, _||_}
-use mathlib.Core.List.{List, [], _∷_}
+use mathlib.Core.List.{List, [], _∷_, _++_}
 use Prim.Native.Nat.{ℕ, zero, suc, _+_, _*_}
-use lib.ListN.{length, getD, drop}
+use lib.ListN.{length, getD, drop, replicate}
 use lib.Dec.{eqb, leb}
 use Rattle.record.specs.declared.form.Form.{Form}
 use Rattle.record.specs.declared.form.Form.the-variants.{Sound, Length, Kind, Value, Unused}
@@ -44,6 +44,10 @@ lengthFits place = leb (getD place 0 0) keyLimit
 -- a key's padding is zero
 abbrev pub padded : List ℕ → Bool
 padded place = allZero (drop (1 + getD place 0 0) place)
+
+-- which bits of a place's bytes are padding's, for the code's look at all 32 of them: from 31 - n on, those after a key of n bytes
+abbrev pub paddingBits : List ℕ
+paddingBits = replicate 32 0 ++ replicate 31 255
 
 -- a value is one of a kind's
 abbrev pub within : Values → ℕ → Bool

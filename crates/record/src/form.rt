@@ -10,10 +10,10 @@ use crate::limits::SPANS_AT;
 use crate::limits::VOTERS_AT;
 use crate::number::index;
 ghost use mathlib.Core.Path.{_≡_};
-ghost use Prim.Native.Nat.{_+_, _*_, _≤_};
+ghost use Prim.Native.Nat.{_≤_};
 ghost use lib.ListN.{length, getD};
 ghost use Rattle.record.specs.Limits.{recordSize, keySize, voterLimit, spanLimit, spansAt};
-ghost use Rattle.record.specs.Form.{allZero, padded, lengthFits, placesFrom, every, within, countsFit, valuesFit, numbersClear, spansClear, unusedClear, refusalOf, formNumber};
+ghost use Rattle.record.specs.Form.{allZero, paddingBits, padded, lengthFits, placesFrom, every, within, countsFit, valuesFit, numbersClear, spansClear, unusedClear, refusalOf, formNumber};
 
 // What the form of a list of bytes is: sound, or the first refusal that it draws.
 pub enum Form {
@@ -82,17 +82,34 @@ fn values_fit(rec: &[u8], k: Shape) -> bool
     }
 }
 
-// Whether the key in a place is followed by zeros alone.
-fn is_padded(place: &[u8]) -> bool
-    requires { ⌜ length (now place) ≡ keySize ⌝ }
+// Which bits of a place's bytes are padding's: none of 32 bytes, then all of 31. A key of n bytes has its own from 31 - n on.
+fn padding_bits() -> [u8; 63]
+    ensures { λ r. ⌜ r ≡ paddingBits ⌝ }
+{
+    let mut bits = [255u8; 63];
+    for i in 0..KEY_SIZE {
+        bits[i] = 0;
+    }
+    bits
+}
+
+// Whether the key in a place is followed by zeros alone. It looks at all 32 bytes, whatever the length, with no branch.
+fn is_padded(place: &[u8], bits: &[u8; 63]) -> bool
+    requires { ⌜ (length (now place) ≡ keySize) × (now bits ≡ paddingBits) ⌝ }
     ensures { λ r. ⌜ r ≡ padded (now (place .entry)) ⌝ }
 {
-    let end = 1 + index(place[0]);
-    if KEY_SIZE < end {
-        true
-    } else {
-        all_zero(&place[end..KEY_SIZE])
+    let size = place[0];
+    if KEY_LIMIT < size {
+        return true;
     }
+    let from = index(KEY_LIMIT - size);
+    let mut seen = 0u8;
+    let mut i = 0usize;
+    while i < KEY_SIZE {
+        seen = seen | (place[i] & bits[from + i]);
+        i += 1;
+    }
+    seen == 0
 }
 
 // Whether each of the first n keys is padded with zeros.
@@ -100,12 +117,13 @@ fn are_padded(rec: &[u8], n: usize) -> bool
     requires { ⌜ (length (now rec) ≡ recordSize) × (n ≤ 8) ⌝ }
     ensures { λ r. ⌜ r ≡ every padded (placesFrom spansAt n (now (rec .entry))) ⌝ }
 {
+    let bits = padding_bits();
     let mut clear = true;
     let mut i = 0usize;
     while i < n {
         let at = SPANS_AT + KEY_SIZE * i;
         let end = at + KEY_SIZE;
-        clear = clear & is_padded(&rec[at..end]);
+        clear = clear & is_padded(&rec[at..end], &bits);
         i += 1;
     }
     clear

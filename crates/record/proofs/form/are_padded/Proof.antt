@@ -7,10 +7,13 @@ use Rattle.record.proofs.form.are_padded.Statement.{statement}
 use Rattle.record.proofs.form.are_padded.Tie as tie
 
 abbrev Inv-loop : tie.InvT-loop
-Inv-loop rec n clear₀ i₀ clear i = Passed padded rec n clear i
+Inv-loop rec n bits clear₀ i₀ clear i = Passed padded rec n clear i
 
 abbrev μ-loop : tie.MeasureT-loop
-μ-loop rec n clear₀ i₀ clear i = n - i
+μ-loop rec n bits clear₀ i₀ clear i = n - i
+
+padding-bits-requires : tie.Need-padding-bits-requires Inv-loop μ-loop
+padding-bits-requires c κs = search needs
 
 loop-holds : tie.Need-loop-holds Inv-loop μ-loop
 loop-holds c = passed-start _ _ _
@@ -34,7 +37,7 @@ part-is-padded-end : tie.Need-part-is-padded-end Inv-loop μ-loop
 part-is-padded-end c = search needs
 
 is-padded-requires : tie.Need-is-padded-requires Inv-loop μ-loop
-is-padded-requires c κs = search needs
+is-padded-requires c κs = (search needs, c .before .before .before .before .padding-bits .ensures)
 
 add-i : tie.Need-add-i Inv-loop μ-loop
 add-i c = search needs
@@ -43,7 +46,7 @@ loop-less : tie.Need-loop-less Inv-loop μ-loop
 loop-less c = search needs
 
 loop-again : tie.Need-loop-again Inv-loop μ-loop
-loop-again c = passed-turn (c .before .before .before .loop .inv) (c .before .before .loop-test .taken) _ (c .is-padded .ensures)
+loop-again c = passed-turn (c .before .before .before .before .loop .inv) (c .before .before .before .loop-test .taken) _ (c .is-padded .ensures)
 
 returns : tie.Need-returns Inv-loop μ-loop
 returns c = passed-end (c .before .loop .inv) (c .loop-test .left)
@@ -54,6 +57,7 @@ are-padded-spec =
     (tie.spec
     Inv-loop
     μ-loop
+    padding-bits-requires
     loop-holds
     mul-at
     add-at
