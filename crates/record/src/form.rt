@@ -24,6 +24,19 @@ pub enum Form {
     Unused,
 }
 
+// Document 01's number of an answer, 0 where the form is sound.
+pub fn number_of(form: Form) -> u8
+    ensures { λ r. ⌜ r ≡ formNumber form ⌝ }
+{
+    match form {
+        Form::Sound => 0,
+        Form::Length => 1,
+        Form::Kind => 2,
+        Form::Value => 3,
+        Form::Unused => 4,
+    }
+}
+
 // Whether every byte is zero. It leaves only at the end: so the compiler takes many bytes at a time.
 fn all_zero(s: &[u8]) -> bool
     ensures { λ r. ⌜ r ≡ allZero (now (s .entry)) ⌝ }

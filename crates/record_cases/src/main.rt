@@ -1,23 +1,8 @@
 // Hand-made records: each kind's, each refusal's and each boundary's of document 01's "Records", with the refusal's number,
 // or 0 where the form is sound. The file stdout is written from the document.
 use libc::STDOUT_FILENO;
-use record::form::Form;
 use record::form::form_of;
-ghost use mathlib.Core.Path.{_≡_};
-ghost use Rattle.record.specs.Form.{formNumber};
-
-// Document 01's number of a refusal.
-fn number(f: Form) -> u64
-    ensures { λ r. ⌜ r ≡ formNumber f ⌝ }
-{
-    match f {
-        Form::Sound => 0,
-        Form::Length => 1,
-        Form::Kind => 2,
-        Form::Value => 3,
-        Form::Unused => 4,
-    }
-}
+use record::form::number_of;
 
 fn write(text: &[u8]) {
     io::write_all(STDOUT_FILENO, text);
@@ -25,7 +10,7 @@ fn write(text: &[u8]) {
 
 // The refusal of some bytes, and of a record.
 fn refusal(bytes: &[u8]) {
-    let n = number(form_of(bytes));
+    let n = number_of(form_of(bytes)) as u64;
     write(b" ");
     io::print_decimal(STDOUT_FILENO, n);
 }

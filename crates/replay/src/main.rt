@@ -1,7 +1,8 @@
 // Runs the stored vectors, which hold the Rust's answers and document 01's refusals, and says how many of them came
 // out otherwise. `form.bin` is a list of cases: a length of two bytes, the refusal that its form draws, the bytes.
 use libc::STDOUT_FILENO;
-use record::form::Form;
+use record::form::form_of;
+use record::form::number_of;
 
 // What a case of the file turned out to be.
 enum Outcome {
@@ -16,18 +17,8 @@ struct Tally {
     wrong: u64,
 }
 
-fn number(form: Form) -> u8 {
-    match form {
-        Form::Sound => 0,
-        Form::Length => 1,
-        Form::Kind => 2,
-        Form::Value => 3,
-        Form::Unused => 4,
-    }
-}
-
 fn judged(bytes: &[u8], refusal: u8) -> Outcome {
-    if number(record::form::form_of(bytes)) == refusal {
+    if number_of(form_of(bytes)) == refusal {
         Outcome::Right
     } else {
         Outcome::Wrong
