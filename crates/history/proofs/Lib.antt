@@ -7,3 +7,4 @@ pub mod Queries
 pub mod Walks
 pub mod Copies
 pub mod Mixing
+pub mod Spans

@@ -16,3 +16,10 @@ mixAfter m a = mix (m + fold a)
 -- the bucket of a mixed number: its share of C
 unfoldable pub bucket : ℕ → ℕ → ℕ
 bucket cap m = m * cap / 4294967296
+
+-- the bucket of one number, and of two
+abbrev pub bucketBy : ℕ → ℕ → ℕ
+bucketBy cap a = bucket cap (mix a)
+
+abbrev pub bucketByTwo : ℕ → ℕ → ℕ → ℕ
+bucketByTwo cap a b = bucket cap (mixAfter (mix a) b)

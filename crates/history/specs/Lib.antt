@@ -3,3 +3,4 @@ pub mod Logs
 pub mod Columns
 pub mod Buckets
 pub mod Places
+pub mod Bounds

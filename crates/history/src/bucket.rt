@@ -1,7 +1,7 @@
 // Which of cap buckets numbers belong to: mixed by a multiplication, so that numbers that follow each other spread.
 ghost use mathlib.Core.Path.{_≡_};
 ghost use Prim.Native.Nat.{_<_, _≤_};
-ghost use Rattle.history.specs.Buckets.{mix, mixAfter, fold, bucket};
+ghost use Rattle.history.specs.Buckets.{mix, mixAfter, fold, bucket, bucketBy, bucketByTwo};
 
 // The two halves of a number, added.
 fn folded(a: u64) -> u64
@@ -31,4 +31,19 @@ pub fn bucket_of(cap: usize, m: u64) -> usize
     ensures { λ r. ⌜ (r ≡ bucket cap m) × (r < cap) ⌝ }
 {
     (m * (cap as u64) / 0x1_0000_0000) as usize
+}
+
+// The bucket of one number, and of two.
+pub fn bucket_by(cap: usize, a: u64) -> usize
+    requires { ⌜ (0 < cap) × (cap ≤ 4096) ⌝ }
+    ensures { λ r. ⌜ (r ≡ bucketBy cap a) × (r < cap) ⌝ }
+{
+    bucket_of(cap, mixed(a))
+}
+
+pub fn bucket_by_two(cap: usize, a: u64, b: u64) -> usize
+    requires { ⌜ (0 < cap) × (cap ≤ 4096) ⌝ }
+    ensures { λ r. ⌜ (r ≡ bucketByTwo cap a b) × (r < cap) ⌝ }
+{
+    bucket_of(cap, mixed_after(mixed(a), b))
 }

@@ -3,3 +3,4 @@
 pub mod bucket;
 pub mod chain;
 pub mod log;
+pub mod span;
