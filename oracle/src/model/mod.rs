@@ -1,0 +1,15 @@
+//! A plain model of document 01, written from its prose and not from the Rust:
+//! every term is a look back over the records taken. Slow on purpose.
+
+pub mod descriptors;
+pub mod form;
+pub mod generations;
+pub mod half;
+pub mod ids;
+pub mod judge;
+pub mod meta;
+pub mod owners;
+pub mod readings;
+
+/// A case of a check: kind and evidence.
+pub type Case = Option<(u8, Vec<u64>)>;
