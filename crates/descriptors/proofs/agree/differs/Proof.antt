@@ -1,0 +1,61 @@
+-- The same value is no fault; one of a lower generation asks what is ahead; any other is kind 3.
+use mathlib.Core.Path.{sym, _∙_}
+use native.Mathlib.Omega.{arith}
+use borrow.Author.Needs.{needs}
+use Rattle.record.specs.Records.{decode}
+use Rattle.rules.specs.Descriptors.{standing}
+use Rattle.history.specs.Logs.{hist}
+use Rattle.descriptors.proofs.Judged.{differs-ahead, differs-behind}
+use Rattle.descriptors.proofs.agree.differs.Statement.{statement}
+use Rattle.descriptors.proofs.agree.differs.Tie as tie
+
+same-held-requires : tie.Need-same-held-requires
+same-held-requires c κs = search needs
+
+returns : tie.Need-returns
+returns c = λ k. rw (sym (c .before .same-held .ensures) ∙ c .if1 .taken)
+
+d-requires : tie.Need-d-requires
+d-requires c κs = search needs
+
+d-requires-2 : tie.Need-d-requires-2
+d-requires-2 c κs = search needs
+
+a-requires : tie.Need-a-requires
+a-requires c κs = search needs
+
+d-requires-3 : tie.Need-d-requires-3
+d-requires-3 c κs = search needs
+
+ahead-case-requires : tie.Need-ahead-case-requires
+ahead-case-requires c κs = search needs
+
+returns-2 : tie.Need-returns-2
+returns-2 c = let a = c .before .before .before .before .before .before .before .before .before .before .before .before .args in λ k.
+    differs-ahead (decode (a .value .now)) (decode (a .stated .now)) (a .index) (standing (hist (a .log .now) (a .count))) (sym (c .before .before .before .before .before .before .before .same-held .ensures) ∙ c .before .before .before .before .before .before .if1 .left) (omega (arith, c .before .before .before .before .before .d .ensures, c .before .before .before .before .d2 .ensures, c .before .before .before .if2 .taken)) (c .before .before .a .ensures) (c .before .d3 .ensures) (c .ahead-case .ensures k)
+
+a-requires-2 : tie.Need-a-requires-2
+a-requires-2 c κs = search needs
+
+fault-requires : tie.Need-fault-requires
+fault-requires c κs = search needs
+
+returns-3 : tie.Need-returns-3
+returns-3 c = let a = c .before .before .before .before .before .before .before .before .before .before .before .args in λ k.
+    differs-behind (decode (a .value .now)) (decode (a .stated .now)) (a .index) (standing (hist (a .log .now) (a .count))) (sym (c .before .before .before .before .before .before .same-held .ensures) ∙ c .before .before .before .before .before .if1 .left) (omega (arith, c .before .before .before .before .d .ensures, c .before .before .before .d2 .ensures, c .before .before .if2 .left)) (c .before .a2 .ensures) (c .fault .ensures)
+
+pub differs-spec : {M : Type 1} → statement M
+differs-spec =
+    tie.close
+    (tie.spec
+    same-held-requires
+    returns
+    d-requires
+    d-requires-2
+    a-requires
+    d-requires-3
+    ahead-case-requires
+    returns-2
+    a-requires-2
+    fault-requires
+    returns-3)

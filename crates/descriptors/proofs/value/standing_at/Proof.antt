@@ -1,0 +1,118 @@
+-- A walk along the range's standing values: the first at the place is the value there.
+use Prim.Native.Nat.{_-_, _≤_}
+use mathlib.Core.Path.{sym, _∙_, refl}
+use native.Mathlib.Omega.{arith}
+use borrow.Author.Needs.{needs}
+use Rattle.rules.specs.Descriptors.{standing}
+use Rattle.rules.specs.History.{latestOf}
+use Rattle.history.proofs.Chains.{Stands, stands-first, stands-next}
+use Rattle.history.proofs.Logs.{record-length}
+use Rattle.history.specs.Buckets.{bucketBy}
+use Rattle.history.specs.Logs.{hist}
+use Rattle.descriptors.specs.Answers.{atPlace}
+use Rattle.descriptors.specs.Index.{DescriptorsIndexed, standingBucket}
+use Rattle.descriptors.proofs.Walks.{place-skip, place-hit, place-miss, place-end, at-is}
+use Rattle.descriptors.proofs.value.standing_at.Statement.{statement}
+use Rattle.descriptors.proofs.value.standing_at.Tie as tie
+
+abbrev Inv-loop : tie.InvT-loop
+Inv-loop log work count cap range index i₀ i =
+    (i ≤ count)
+    × (DescriptorsIndexed cap (hist log count) work
+    → Stands (standingBucket cap) (bucketBy cap range) log (λ n. latestOf (atPlace range index) (standing (hist log n)))
+    (latestOf (atPlace range index) (standing (hist log count))) i)
+
+abbrev μ-loop : tie.MeasureT-loop
+μ-loop log work count cap range index i₀ i = i
+
+mul-link : tie.Need-mul-link Inv-loop μ-loop
+mul-link c = search needs
+
+bucket-by-requires : tie.Need-bucket-by-requires Inv-loop μ-loop
+bucket-by-requires c κs = search needs
+
+add-link : tie.Need-add-link Inv-loop μ-loop
+add-link c = search needs
+
+link-requires : tie.Need-link-requires Inv-loop μ-loop
+link-requires c κs = search needs
+
+loop-holds : tie.Need-loop-holds Inv-loop μ-loop
+loop-holds c = let a = c .before .before .before .before .args in (
+  c .link .ensures .0,
+  λ k.
+      stands-first (λ n. latestOf (atPlace (a .range) (a .index)) (standing (hist (a .log .now) n))) (place-skip (a .cap) (a .range) (a .index) (a .log .now)) (k .standing)
+      (omega (arith, c .before .bucket-by .ensures)) (refl) (omega (arith, c .before .bucket-by .ensures)) (c .link .ensures .1),
+)
+
+sub-i : tie.Need-sub-i Inv-loop μ-loop
+sub-i c = search needs
+
+record-at-requires : tie.Need-record-at-requires Inv-loop μ-loop
+record-at-requires c κs = search needs
+
+is-at-requires : tie.Need-is-at-requires Inv-loop μ-loop
+is-at-requires c κs = record-length (c .before .before .before .before .before .before .before .args .log .now) (c .before .before .loop .i - 1) (c .record-at .ensures) (omega arith)
+
+add-result : tie.Need-add-result Inv-loop μ-loop
+add-result c = search needs
+
+returns : tie.Need-returns Inv-loop μ-loop
+returns c = let a = c .before .before .before .before .before .before .before .before .before .args in
+    let l = c .before .before .before .before .loop in (
+      omega arith,
+      λ k.
+          sym (l .inv .1 k .same ∙ place-hit (a .cap) (a .range) (a .index) (a .log .now) (l .i) (omega arith) (l .inv .1 k .here (omega arith))
+          (at-is (a .log .now) (l .i - 1) (c .before .before .record-at .ensures) (a .range) (a .index) (c .before .is-at .ensures)) (c .if1 .taken)),
+    )
+
+mul-link-2 : tie.Need-mul-link-2 Inv-loop μ-loop
+mul-link-2 c = search needs
+
+add-link-2 : tie.Need-add-link-2 Inv-loop μ-loop
+add-link-2 c = search needs
+
+link-requires-2 : tie.Need-link-requires-2 Inv-loop μ-loop
+link-requires-2 c κs = search needs
+
+loop-less : tie.Need-loop-less Inv-loop μ-loop
+loop-less c = search needs
+
+loop-again : tie.Need-loop-again Inv-loop μ-loop
+loop-again c = let a = c .before .before .before .before .before .before .before .before .before .before .args in
+    let l = c .before .before .before .before .before .loop in (
+      omega (arith, c .link2 .ensures .0),
+      λ k.
+          stands-next (λ n. latestOf (atPlace (a .range) (a .index)) (standing (hist (a .log .now) n))) (place-skip (a .cap) (a .range) (a .index) (a .log .now)) (k .standing)
+          (omega arith) (omega arith) (l .inv .1 k .here (omega arith))
+          (l .inv .1 k .same ∙ place-miss (a .cap) (a .range) (a .index) (a .log .now) (l .i) (omega arith) (l .inv .1 k .here (omega arith))
+          (at-is (a .log .now) (l .i - 1) (c .before .before .before .record-at .ensures) (a .range) (a .index) (c .before .before .is-at .ensures)) (c .before .if1 .left))
+          (omega arith) (c .link2 .ensures .1),
+    )
+
+returns-2 : tie.Need-returns-2 Inv-loop μ-loop
+returns-2 c = let a = c .before .before .before .before .before .before .args in
+    let l = c .before .loop in (omega arith, λ k. sym (l .inv .1 k .same ∙ place-end (a .cap) (a .range) (a .index) (a .log .now) (l .i) (omega arith)))
+
+pub standing-at-spec : {M : Type 1} → statement M
+standing-at-spec =
+    tie.close
+    (tie.spec
+    Inv-loop
+    μ-loop
+    mul-link
+    bucket-by-requires
+    add-link
+    link-requires
+    loop-holds
+    sub-i
+    record-at-requires
+    is-at-requires
+    add-result
+    returns
+    mul-link-2
+    add-link-2
+    link-requires-2
+    loop-less
+    loop-again
+    returns-2)

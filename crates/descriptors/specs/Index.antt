@@ -1,0 +1,86 @@
+-- What the columns of `Descriptors` hold: chains of the records that tell the applied indexes, put standing values, state
+-- values, and put the first value of a generation; and the counts after each record.
+use mathlib.Core.Bool.{Bool, cond, _&&_, _||_}
+use mathlib.Core.List.{List, _∷_}
+use mathlib.Core.Option.{Option, none, some}
+use Prim.Native.Nat.{ℕ, zero, suc, _+_, _*_}
+use lib.Dec.{eqb}
+use Rattle.record.specs.declared.named.Node.{Node}
+use Rattle.record.specs.declared.named.Node.the-variants.{Marked, Missing}
+use Rattle.record.specs.Records.{TraceRecord}
+use Rattle.rules.specs.History.{History, Tells, isKind, when, given, anyOf}
+use Rattle.rules.specs.Descriptors.{Entry, heldBy, tellsPut, tellsStated, samePlace, standing, statements, isEmpty}
+use Rattle.history.specs.Logs.{recordAt}
+use Rattle.history.specs.Buckets.{bucketBy, bucketByTwo}
+use Rattle.history.specs.Columns.{Column, cellOf, Chained}
+use Rattle.history.specs.Places.{appliedHeads, appliedLinks, standingHeads, standingLinks, statedHeads, statedLinks, generationHeads, generationLinks, counts}
+
+-- the value that a record puts, where none stood at its place
+unfoldable pub newValue : Tells Entry
+newValue x h = given (λ p. cond (anyOf (samePlace p) (standing h)) none (some p)) (tellsPut x h)
+
+abbrev pub sameGeneration : Entry → Entry → Bool
+sameGeneration v w = eqb (w .range) (v .range) && eqb (w .held .generation) (v .held .generation)
+
+-- the same where it is the first of its range and generation
+unfoldable pub firstValue : Tells Entry
+firstValue x h = given (λ p. cond (anyOf (sameGeneration p) (standing h)) none (some p)) (newValue x h)
+
+-- the records that tell an applied index, by node and range
+abbrev pub appliedAt : ℕ → TraceRecord → Node → Option ℕ
+appliedAt cap x Missing = none
+appliedAt cap x (Marked n) = when (isKind 1 x || isKind 3 x || isKind 4 x) (bucketByTwo cap (n .0) (x .a))
+
+unfoldable pub appliedBucket : ℕ → Tells ℕ
+appliedBucket cap x h = appliedAt cap x (x .node)
+
+-- the records whose values stand, by range; those that state, by range; those that put the first value of a generation
+abbrev pub byRange : ℕ → Entry → Option ℕ
+byRange cap v = some (bucketBy cap (v .range))
+
+abbrev pub byGeneration : ℕ → Entry → Option ℕ
+byGeneration cap v = some (bucketByTwo cap (v .range) (v .held .generation))
+
+unfoldable pub standingBucket : ℕ → Tells ℕ
+standingBucket cap x h = given (byRange cap) (newValue x h)
+
+unfoldable pub statedBucket : ℕ → Tells ℕ
+statedBucket cap x h = given (byRange cap) (tellsStated x h)
+
+unfoldable pub generationBucket : ℕ → Tells ℕ
+generationBucket cap x h = given (byGeneration cap) (firstValue x h)
+
+-- the counts after a record: twice the statements, and one more where a value stands
+unfoldable pub countsOf : History → ℕ
+countsOf h = 2 * statements h + cond (isEmpty h) 0 1
+
+abbrev pub countsAfter : TraceRecord → History → ℕ
+countsAfter x h = countsOf (x ∷ h)
+
+-- the columns of `Descriptors` are what the history says
+pub record DescriptorsIndexed (cap : ℕ) (h : History) (work : List ℕ) : Type 0 where
+  pub applied : Chained (appliedBucket cap) (appliedHeads * cap) (appliedLinks * cap) cap h work
+  pub standing : Chained (standingBucket cap) (standingHeads * cap) (standingLinks * cap) cap h work
+  pub stated : Chained (statedBucket cap) (statedHeads * cap) (statedLinks * cap) cap h work
+  pub generation : Chained (generationBucket cap) (generationHeads * cap) (generationLinks * cap) cap h work
+  pub counts : Column (cellOf countsAfter h) (counts * cap) cap work
+
+-- the value that the record at a place puts or states, with the record's number
+abbrev pub putEntry : List ℕ → ℕ → Entry
+putEntry log k = record { range = recordAt log k .a; index = recordAt log k .b; held = heldBy (recordAt log k); number = suc k }
+
+-- a RangeCreated states at its floor, a RangeDescriptor at its applied index
+abbrev pub statedIndex : TraceRecord → ℕ
+statedIndex x = cond (isKind 1 x) (x .b) (x .c)
+
+abbrev pub statedEntry : List ℕ → ℕ → Entry
+statedEntry log k = record { range = recordAt log k .a; index = statedIndex (recordAt log k); held = heldBy (recordAt log k); number = suc k }
+
+-- what a record's number stands for, 0 for none
+abbrev pub put : List ℕ → ℕ → Option Entry
+put log zero = none
+put log (suc k) = some (putEntry log k)
+
+abbrev pub statement : List ℕ → ℕ → Option Entry
+statement log zero = none
+statement log (suc k) = some (statedEntry log k)
