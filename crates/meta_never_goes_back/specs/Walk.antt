@@ -1,0 +1,39 @@
+-- The parts of the check: a name by its record's number, the name that stands after one more, the next end of a name above
+-- a key, and the names that can be in conflict with a new one.
+use mathlib.Core.Bool.{Bool, cond, _&&_, _||_}
+use mathlib.Core.List.{List}
+use mathlib.Core.Option.{Option, none, some}
+use Prim.Native.Nat.{ℕ, zero, suc}
+use lib.Dec.{ltb, leb}
+use Rattle.record.specs.Keys.{Key, keyLtb}
+use Rattle.record.specs.Records.{TraceRecord}
+use Rattle.rules.specs.Descriptors.{spanOf}
+use Rattle.rules.specs.MetaNeverGoesBack.{Name, nameBy, covers}
+use Rattle.history.specs.Logs.{recordAt}
+use Rattle.history.proofs.Queries.{greatestStep}
+
+-- the name that the record of a number gives, none for 0
+abbrev pub nameNo : List ℕ → ℕ → Option Name
+nameNo log zero = none
+nameNo log (suc k) = some (nameBy (recordAt log k))
+
+-- the name that stands at a key when one more, earlier than those so far, is looked at: of equal indexes the earlier
+abbrev pub stoodWith : Key → Option Name → Name → Option Name
+stoodWith k best n = greatestStep (λ (m : Name). m .index) (covers k) best n
+
+-- of two keys the lower that is above c, b where x is not
+abbrev pub pull : Key → Key → Key → Key
+pull c x b = cond (keyLtb c x && keyLtb x b) x b
+
+-- an earlier name whose numbers alone would be a fault: a lower index with a higher generation, or an index not lower
+-- with a lower generation ..
+abbrev pub against : TraceRecord → Name → Bool
+against x n = (ltb (n .index) (x .b) && ltb (x .d) (n .generation)) || (leb (x .b) (n .index) && ltb (n .generation) (x .d))
+
+-- .. whose span meets the won span
+abbrev pub meets : TraceRecord → Name → Bool
+meets x n = keyLtb (n .start) (spanOf 1 x .end) && keyLtb (spanOf 1 x .start) (n .end)
+
+-- only such a name can be in conflict with a won key
+abbrev pub opposes : TraceRecord → Name → Bool
+opposes x n = against x n && meets x n
