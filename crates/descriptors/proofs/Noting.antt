@@ -16,8 +16,8 @@ use Rattle.record.proofs.Keys.{decide, never}
 use Rattle.rules.specs.History.{History, Tells, isKind, isSome, when, orElse, given, anyOf, latestOf, earliestOf, addSome, addFirst, told, firsts}
 use Rattle.rules.specs.Descriptors.{Entry, Role, puts, states, neither, heldBy, roleOf, entryAt, putBy, statedBy, tellsPut, tellsStated, samePlace, standing, stated, statements, isEmpty, firstAtGenerationIn, firstAtGeneration}
 use Rattle.history.specs.Columns.{Column, cellOf, Chained, clamp, Put}
-use Rattle.history.proofs.Cells.{cell-new, Same, put-apart, column-agrees, column-put}
-use Rattle.history.proofs.Chains.{clamped, chained-agrees, entered, not-entered}
+use Rattle.history.proofs.Cells.{cell-new, Same, put-apart, column-agrees, column-put, Zeros, column-clear}
+use Rattle.history.proofs.Chains.{clamped, chained-agrees, entered, not-entered, chained-clear}
 use Rattle.descriptors.specs.declared.index.Told.{Told}
 use Rattle.history.specs.Buckets.{bucketBy, bucketByTwo}
 use Rattle.descriptors.specs.Index.{newValue, firstValue, sameGeneration, appliedAt, appliedBucket, standingBucket, statedBucket, generationBucket, countsOf, countsAfter, DescriptorsIndexed, put}
@@ -366,3 +366,30 @@ pub place-taken : (log : List ℕ) (n : ℕ) (x : TraceRecord) (h : History) (in
     → (n ≡ 0 → ⊥) → anyOf (samePlace (entryAt index x h)) (standing h) ≡ true
 place-taken log n x h index e z =
     any-latest (samePlace (entryAt index x h)) (standing h) ∙ sym (put-is-some log n e) ∙ ap not (ne-eqb n 0 z)
+
+-- ---- the columns at the opening, and where other columns are written
+
+pub indexed-clear : {cap : ℕ} {work : List ℕ} → Zeros work → DescriptorsIndexed cap [] work
+indexed-clear z = record {
+  applied = chained-clear z;
+  standing = chained-clear z;
+  stated = chained-clear z;
+  generation = chained-clear z;
+  counts = column-clear countsAfter z;
+}
+
+module _ {cap : ℕ} {work work′ : List ℕ} (s : (j : ℕ) → j < 9 * cap → getD work′ j 0 ≡ getD work j 0) where
+  own : (base : ℕ) → base + cap ≤ 9 * cap → Same base cap work work′
+  own base l = record { word = λ k w. s (base + k) (omega arith) }
+
+  own-chain : {f : Tells ℕ} {h : History} (heads links : ℕ) → heads + cap ≤ 9 * cap → links + cap ≤ 9 * cap → Chained f heads links cap h work → Chained f heads links cap h work′
+  own-chain heads links l m c = chained-agrees (own heads l) (own links m) c
+
+  pub indexed-agrees : {h : History} → DescriptorsIndexed cap h work → DescriptorsIndexed cap h work′
+  indexed-agrees d = record {
+    applied = own-chain (0 * cap) (1 * cap) (omega arith) (omega arith) (d .applied);
+    standing = own-chain (2 * cap) (3 * cap) (omega arith) (omega arith) (d .standing);
+    stated = own-chain (4 * cap) (5 * cap) (omega arith) (omega arith) (d .stated);
+    generation = own-chain (6 * cap) (7 * cap) (omega arith) (omega arith) (d .generation);
+    counts = column-agrees (own (8 * cap) (omega arith)) (d .counts);
+  }

@@ -1,0 +1,179 @@
+-- Laws of half at a RangesRestated and at a Took: what is owed and held with the new record, by what was before it.
+use mathlib.Core.Path.{_≡_, refl, sym, ap, _∙_}
+use mathlib.Core.Bool.{Bool, true, false, cond, not, _&&_, _||_}
+use mathlib.Core.List.{List, [], _∷_, map}
+use mathlib.Core.Logic.{⊎-elim}
+use mathlib.Core.Option.{Option, none, some}
+use Prim.Native.Nat.{ℕ, _≤_, _<_}
+use native.Mathlib.Omega.{arith}
+use lib.Dec.{eqb, leb}
+use borrow.Author.Tests.{eqb-true, eq-eqb}
+use Rattle.record.specs.declared.named.ApplyEffect.the-variants.{Took}
+use Rattle.record.specs.Records.{Span, TraceRecord}
+use Rattle.rules.specs.declared.Case.{Case}
+use Rattle.rules.specs.History.{History, isKind, isBy, isSome, addSome, latestOf, lower, lowestOf, orElse}
+use Rattle.rules.specs.Cases.{fault, caseOf}
+use Rattle.rules.specs.GenerationsRise.{hasEffect}
+use Rattle.rules.specs.OneOwnerPerKey.{isHolding, heldSpan, isHeld}
+use Rattle.rules.specs.RightHalf.{Registered, isRestated, isSplit, registered, registers, isVoter, ownDebt, registeringDebt, cancels, debtAt, owes, isMissing, missingFault}
+use Rattle.rules.proofs.Booleans.{never, and-left, and-right, both, or-cases}
+use Rattle.rules.proofs.Members.{Mem}
+use Rattle.rules.proofs.Placed.{Placed, Answer, Latest, latestOf-right, placed-mem}
+use Rattle.rules.proofs.Debts.{owes-arises, owes-kept}
+use Rattle.rules.proofs.Once.{registered-step, splits-one}
+use Rattle.one_owner_per_key.proofs.Marks.{kind-apart, and-none}
+use Rattle.one_owner_per_key.proofs.Holds.{span-step}
+use Rattle.right_half.specs.Walk.{applying, comes}
+use Rattle.right_half.proofs.Arising.{Arisen, own, early, itself, arisen}
+use Rattle.right_half.proofs.Lacks.{registers-kind}
+
+none-of : {A : Type 0} (o : Option A) → isSome o ≡ false → o ≡ none
+none-of none e = refl
+none-of (some a) e = never refl e
+
+either : (t : Bool) (o : Option Span) → cond t o o ≡ o
+either true o = refl
+either false o = refl
+
+-- the lowest is told by what each number passes
+pub lowest-same : (p q : ℕ → Bool) → ((r : ℕ) → p r ≡ q r) → (xs : List ℕ) → lowestOf (λ n. n) p xs ≡ lowestOf (λ n. n) q xs
+unfolding lowestOf
+lowest-same p q e [] = refl
+lowest-same p q e (x ∷ xs) = rw (e x, lowest-same p q e xs)
+
+comes-off : (node : ℕ) (s : Registered) (x : TraceRecord) (h : History) → applying (s .index) x (isRestated node h) ≡ false
+    → comes node (s .parent) (s .index) (s .voters) x h ≡ true → ⊥
+unfolding comes
+comes-off node s x h e c =
+    never (and-right (isBy node x && eqb (x .a) (s .parent)) (applying (s .index) x (isRestated node h))
+    (and-left (isBy node x && eqb (x .a) (s .parent) && applying (s .index) x (isRestated node h)) _ c)) e
+
+module _ (x : TraceRecord) (h : History) (not-1 : isKind 1 x ≡ false) (not-2 : isKind 2 x ≡ false) where
+  -- a record that is neither of kind 1 nor of kind 2 registers nothing
+  no-split : (o : Option Registered) → registers x h ≡ o → o ≡ none
+  no-split none e = refl
+  no-split (some s) e = never (registers-kind x h e) (rw (not-1, not-2))
+
+  pub registers-none : registers x h ≡ none
+  registers-none = no-split (registers x h) refl
+
+  pub registered-same : registered (x ∷ h) ≡ registered h
+  registered-same = registered-step x h ∙ rw registers-none
+
+  -- and where it ends nothing, it leaves what is held
+  pub held-same : (node range : ℕ) → isKind 6 x ≡ false → isKind 9 x ≡ false → isKind 10 x ≡ false → isHeld node range (x ∷ h) ≡ isHeld node range h
+  held-same node range a b c =
+      let e : heldSpan node range (x ∷ h) ≡ heldSpan node range h = span-step node range x h ∙ rw (not-1, not-2, a, b, c) (either (isBy node x) (heldSpan node range h)) in
+      ap isSome e
+
+  -- ---- no debt but by its own application
+
+  pub quiet-debt : (node right : ℕ) → isKind 7 x ≡ false → isKind 3 x ≡ false → debtAt node right x h ≡ none
+  quiet-debt node right a b = none-of (debtAt node right x h) (go (isSome (debtAt node right x h)) refl)
+    where
+      off : (index : ℕ) → applying index x (isRestated node h) ≡ false
+      off index = rw (a, b, not-2)
+
+      coming-off : (s : Registered) → comes node (s .parent) (s .index) (s .voters) x h ≡ true → ⊥
+      coming-off s e = comes-off node s x h (off (s .index)) e
+
+      by-arisen : Arisen node right x h → ⊥
+      by-arisen (own s its m e) = coming-off s e
+      by-arisen (early s its g v e) = never (registers-kind x h g) (rw (not-1, not-2))
+      by-arisen (itself s its g v b′ k m l) = never k not-2
+
+      go : (t : Bool) → isSome (debtAt node right x h) ≡ t → t ≡ false
+      go true e = absurd (by-arisen (arisen node right x h e))
+      go false e = refl
+
+-- ---- at a RangesRestated
+
+module _ (node : ℕ) (x : TraceRecord) (h : History) (is : isKind 5 x ≡ true) where
+  not-kind : (k : ℕ) → (5 ≡ k → ⊥) → isKind k x ≡ false
+  not-kind k d = kind-apart 5 k x d is
+
+  pub restated-owes : (right : ℕ) → owes node right (x ∷ h) ≡ owes node right h
+  restated-owes right =
+      owes-kept node right x h (rw (not-kind 9 (λ q. omega arith), not-kind 10 (λ q. omega arith)) (and-none (isBy node x)))
+      (quiet-debt x h (not-kind 1 (λ q. omega arith)) (not-kind 2 (λ q. omega arith)) node right (not-kind 7 (λ q. omega arith)) (not-kind 3 (λ q. omega arith)))
+
+  pub restated-held : (range : ℕ) → isHeld node range (x ∷ h) ≡ isHeld node range h
+  restated-held range =
+      held-same x h (not-kind 1 (λ q. omega arith)) (not-kind 2 (λ q. omega arith)) node range (not-kind 6 (λ q. omega arith)) (not-kind 9 (λ q. omega arith)) (not-kind 10 (λ q. omega arith))
+
+  -- what is missing with the record is what was missing before it
+  pub restated-missing : (range : ℕ) → isMissing node (x ∷ h) range ≡ isMissing node h range
+  restated-missing range = rw (restated-owes range, restated-held range)
+
+  pub restated-lowest : lowestOf (λ n. n) (isMissing node (x ∷ h)) (map (λ s. s .right) (registered (x ∷ h))) ≡ lowestOf (λ n. n) (isMissing node h) (map (λ s. s .right) (registered h))
+  restated-lowest =
+      ap (λ (ss : List Registered). lowestOf (λ n. n) (isMissing node (x ∷ h)) (map (λ s. s .right) ss)) (registered-same x h (not-kind 1 (λ q. omega arith)) (not-kind 2 (λ q. omega arith)))
+      ∙ lowest-same (isMissing node (x ∷ h)) (isMissing node h) restated-missing (map (λ s. s .right) (registered h))
+
+-- ---- at a Took of a registered split
+
+module _ (node : ℕ) (x : TraceRecord) (h : History) (b : isBy node x ≡ true) (took : hasEffect Took x ≡ true) (s : Registered) (mem : Mem s (registered h)) (at : isSplit (x .a) (x .b) s ≡ true) where
+  took-kind : (k : ℕ) → (3 ≡ k → ⊥) → isKind k x ≡ false
+  took-kind k d = kind-apart 3 k x d (and-left (isKind 3 x) _ took)
+
+  module _ (right : ℕ) where
+    abbrev its : Registered → Bool
+    its u = eqb (u .right) right && isVoter node h u
+
+    abbrev test : Registered → Bool
+    test u = isSplit (x .a) (x .b) u && eqb (u .right) right && isVoter node h u
+
+    or-none : (o : Option Registered) → orElse o none ≡ o
+    or-none none = refl
+    or-none (some u) = refl
+
+    took-debt : debtAt node right x h ≡ latestOf test (registered h)
+    unfolding debtAt
+    took-debt =
+        rw (b, took-kind 7 (λ q. omega arith), took, registers-none x h (took-kind 1 (λ q. omega arith)) (took-kind 2 (λ q. omega arith))) (or-none (latestOf test (registered h)))
+
+    same : (u : Registered) → Mem u (registered h) → isSplit (x .a) (x .b) u ≡ true → u ≡ s
+    same u m e =
+        splits-one h u s m mem
+        (eqb-true (u .parent) (x .a) (and-left (eqb (u .parent) (x .a)) _ e) ∙ sym (eqb-true (s .parent) (x .a) (and-left (eqb (s .parent) (x .a)) _ at)))
+        (eqb-true (u .index) (x .b) (and-right (eqb (u .parent) (x .a)) _ e) ∙ sym (eqb-true (s .index) (x .b) (and-right (eqb (s .parent) (x .a)) _ at)))
+
+    and-three : (p q r : Bool) → p ≡ true → p && q && r ≡ q && r
+    and-three p q r e = rw e
+
+    test-is : test s ≡ its s
+    test-is = and-three (isSplit (x .a) (x .b) s) (eqb (s .right) right) (isVoter node h s) at
+
+    one : (o : Option Registered) (t : Bool) → its s ≡ t → Answer (Latest test (registered h)) test (registered h) o → o ≡ cond t (some s) none
+    one none true e a = never (test-is ∙ e) (a s mem)
+    one none false e a = refl
+    one (some u) t e a =
+        let p = a .place .passes in
+        let q : u ≡ s = same u (placed-mem (a .place)) (and-left (isSplit (x .a) (x .b) u) _ (and-left (isSplit (x .a) (x .b) u && eqb (u .right) right) _ p)) in
+        let w : t ≡ true = sym e ∙ sym test-is ∙ ap test (sym q) ∙ p in
+        rw (w, q)
+
+    took-cases : (t : Bool) → its s ≡ t → owes node right (x ∷ h) ≡ cond t (some s) (owes node right h)
+    took-cases t e = go t (took-debt ∙ one (latestOf test (registered h)) t e (latestOf-right test (registered h)))
+      where
+        kept : cancels node right x ≡ false
+        kept = rw (took-kind 9 (λ q. omega arith), took-kind 10 (λ q. omega arith)) (and-none (isBy node x))
+
+        go : (v : Bool) → debtAt node right x h ≡ cond v (some s) none → owes node right (x ∷ h) ≡ cond v (some s) (owes node right h)
+        go true d = owes-arises node right x h s kept d
+        go false d = owes-kept node right x h kept d
+
+    -- the split is owed by the record, where the server is a voter; else what was owed before
+    pub took-owes : owes node right (x ∷ h) ≡ cond (its s) (some s) (owes node right h)
+    took-owes = took-cases (its s) refl
+
+    pub took-held : isHeld node right (x ∷ h) ≡ isHeld node right h
+    took-held =
+        held-same x h (took-kind 1 (λ q. omega arith)) (took-kind 2 (λ q. omega arith)) node right (took-kind 6 (λ q. omega arith)) (took-kind 9 (λ q. omega arith)) (took-kind 10 (λ q. omega arith))
+
+    some-cond : (t : Bool) (o : Option Registered) → isSome (cond t (some s) o) ≡ t || isSome o
+    some-cond true o = refl
+    some-cond false o = refl
+
+    pub took-missing : isMissing node (x ∷ h) right ≡ (its s || isSome (owes node right h)) && not (isHeld node right h)
+    took-missing = rw (took-owes, took-held, some-cond (its s) (owes node right h))

@@ -1,0 +1,44 @@
+-- Each way is one test.
+use lib.Dec.{eqb}
+use Rattle.right_half.proofs.Noting.{not-not}
+use mathlib.Core.Path.{_≡_, refl, sym, ap, _∙_}
+use borrow.Author.Needs.{needs}
+use Rattle.right_half.proofs.owed.is_asked.Statement.{statement}
+use Rattle.right_half.proofs.owed.is_asked.Tie as tie
+
+kind-requires : tie.Need-kind-requires
+kind-requires c κs = search needs
+
+enum-told : tie.Need-enum-told
+enum-told c = search needs
+
+enum-known-asked : tie.Need-enum-known-asked
+enum-known-asked c = search needs
+
+b-requires : tie.Need-b-requires
+b-requires c κs = search needs
+
+enum-told-2 : tie.Need-enum-told-2
+enum-told-2 c = search needs
+
+returns : tie.Need-returns
+returns c = rw (c .enum-told .given .1, c .before .before .kind .ensures)
+
+returns-2 : tie.Need-returns-2
+returns-2 c = rw (c .before .before .asked .given .1, c .before .before .before .before .kind .ensures, c .b .ensures)
+
+returns-3 : tie.Need-returns-3
+returns-3 c = rw (c .enum-told2 .given .1, c .before .before .kind .ensures, ← not-not (eqb (c .before .before .before .before .args .mark) 0))
+
+pub is-asked-spec : {M : Type 1} → statement M
+is-asked-spec =
+    tie.close
+    (tie.spec
+    kind-requires
+    enum-told
+    enum-known-asked
+    b-requires
+    enum-told-2
+    returns
+    returns-2
+    returns-3)

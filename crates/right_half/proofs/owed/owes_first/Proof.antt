@@ -1,0 +1,46 @@
+-- It is applied by then, and the server as of then is a voter.
+use mathlib.Core.Path.{_≡_, refl, sym, ap, _∙_}
+use native.Mathlib.Omega.{arith}
+use Rattle.record.specs.Records.{decode}
+use Rattle.right_half.proofs.States.{server-is}
+use Rattle.right_half.proofs.Comings.{owes-first-voter, owes-first-none}
+use borrow.Author.Needs.{needs}
+use Rattle.right_half.proofs.owed.owes_first.Statement.{statement}
+use Rattle.right_half.proofs.owed.owes_first.Tie as tie
+
+latest-of-requires : tie.Need-latest-of-requires
+latest-of-requires c κs = (c .before .before .before .pre .0, c .before .before .before .pre .1 .0)
+
+is-applied-first-requires : tie.Need-is-applied-first-requires
+is-applied-first-requires c κs = (c .before .before .before .before .pre .0, (c .before .before .before .before .pre .1 .0, (c .latest-of .ensures .0, c .before .before .before .before .pre .1 .1)))
+
+server-by-requires : tie.Need-server-by-requires
+server-by-requires c κs = (c .before .before .before .before .before .before .pre .0 .work-holds, (omega (arith, c .before .before .latest-of .ensures .0, c .before .before .before .before .before .before .pre .0, c .before .before .before .before .before .before .pre .1 .0), c .before .before .before .before .before .before .pre .0 .small))
+
+is-voter-requires : tie.Need-is-voter-requires
+is-voter-requires c κs = c .before .before .before .before .before .before .before .pre .1 .1
+
+returns : tie.Need-returns
+returns c =
+    let a = c .before .before .before .before .before .before .before .before .args in
+    let p = c .before .before .before .before .before .before .before .before .pre in
+    λ ix.
+    let e = c .before .before .before .before .latest-of .ensures .1 (ix .0) in
+    owes-first-voter (a .log .now) (a .t) (a .node .0) (decode (a .rec .now)) (c .before .before .before .is-applied-first .ensures ix e) (c .before .before .if1 .taken)
+    (server-is (a .log .now) (a .node .0) (ix .1 .servers) (p .0 .within) (p .1 .0) e (c .before .server-by .ensures)) (c .is-voter .ensures)
+
+returns-2 : tie.Need-returns-2
+returns-2 c =
+    let a = c .before .before .before .before .before .before .args in
+    λ ix. owes-first-none (a .log .now) (a .t) (a .node .0) (decode (a .rec .now)) (c .before .is-applied-first .ensures ix (c .before .before .latest-of .ensures .1 (ix .0))) (c .if1 .left)
+
+pub owes-first-spec : {M : Type 1} → statement M
+owes-first-spec =
+    tie.close
+    (tie.spec
+    latest-of-requires
+    is-applied-first-requires
+    server-by-requires
+    is-voter-requires
+    returns
+    returns-2)

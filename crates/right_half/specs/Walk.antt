@@ -1,0 +1,97 @@
+-- What the walks for debts look for, in place of the rules' definitions; proved to be the same in the crate's laws.
+use mathlib.Core.Bool.{Bool, true, false, cond, not, _&&_, _||_}
+use mathlib.Core.List.{List, [], _∷_}
+use mathlib.Core.Option.{Option, none, some}
+use Prim.Native.Nat.{ℕ, suc, _-_, max}
+use lib.Dec.{eqb, leb, ltb}
+use Rattle.record.specs.declared.named.Node.{Node}
+use Rattle.record.specs.declared.named.Node.the-variants.{Marked, Missing}
+use Rattle.record.specs.declared.named.ApplyEffect.the-variants.{Took}
+use Rattle.record.specs.Records.{TraceRecord}
+use Rattle.rules.specs.History.{History, isKind, isBy, anyOf, lower}
+use Rattle.rules.specs.declared.Found.{Found}
+use Rattle.rules.specs.declared.Found.the-variants.{At, Nothing}
+use Rattle.rules.specs.OneOwnerPerKey.{isHeld}
+use Rattle.rules.specs.GenerationsRise.{hasEffect}
+use Rattle.rules.specs.RightHalf.{Registered, serverOf, isRestated}
+use Rattle.history.specs.Logs.{recordAt, hist}
+use Rattle.one_owner_per_key.specs.Numbers.{latestNumber}
+use Rattle.right_half.specs.declared.owed.Asked.{Asked}
+use Rattle.right_half.specs.declared.owed.Asked.the-variants.{Removed, Traced, Recording}
+use Rattle.right_half.specs.Numbers.{refusedNumber, cancelNumber}
+use Rattle.right_half.specs.Splits.{parentBy}
+
+-- ---- records of a node and a range
+
+-- a RangeRemoved; a RangeSplit at an index; a RangeDescriptor that records an index. m: whether the node is restated
+abbrev pub asksKind : Asked → TraceRecord → Bool → Bool
+asksKind Removed x m = isKind 9 x
+asksKind (Traced index) x m = isKind 7 x && eqb (x .b) index
+asksKind Recording x m = isKind 2 x && not m
+
+unfoldable pub asks : Asked → ℕ → ℕ → TraceRecord → History → Bool
+asks q node range x h = isBy node x && eqb (x .a) range && asksKind q x (isRestated node h)
+
+-- a node's own application of a registered split: a RangeSplit or a Took at its index, or, while not restated, a
+-- RangeDescriptor that has applied it. m: whether the node is restated
+abbrev pub applying : ℕ → TraceRecord → Bool → Bool
+applying index x m = (isKind 7 x || hasEffect Took x) && eqb (x .b) index || isKind 2 x && not m && leb index (x .c)
+
+-- .. while its server is one of the voters
+unfoldable pub comes : ℕ → ℕ → ℕ → List ℕ → TraceRecord → History → Bool
+comes node range index voters x h =
+    isBy node x && eqb (x .a) range && applying index x (isRestated node h) && anyOf (λ v. eqb v (serverOf node h .0)) voters
+
+-- a number, where it is above a floor
+abbrev pub above : ℕ → ℕ → ℕ
+above floor n = cond (ltb floor n) n 0
+
+-- ---- at the registering record y, which is after h
+
+-- the node's "recorded index of the parent reaches it"; it traced a RangeSplit of it since its latest RaftRefused; or y is
+-- its own RangeDescriptor that has applied it
+unfoldable pub reached : List ℕ → ℕ → ℕ → ℕ → ℕ → Bool
+reached log n node parent index =
+    ltb (refusedNumber node (hist log n)) (latestNumber (asks Recording node parent) (hist log n))
+    && leb index (recordAt log (latestNumber (asks Recording node parent) (hist log n) - 1) .c)
+
+unfoldable pub traced : List ℕ → ℕ → ℕ → ℕ → ℕ → Bool
+traced log n node parent index = ltb (refusedNumber node (hist log n)) (latestNumber (asks (Traced index) node parent) (hist log n))
+
+abbrev pub reachesItself : ℕ → TraceRecord → Bool → Bool
+reachesItself node y m = isBy node y && isKind 2 y && not m && leb (y .b) (y .c)
+
+unfoldable pub appliedFirst : List ℕ → ℕ → ℕ → TraceRecord → Bool
+appliedFirst log t node y =
+    reached log t node (parentBy y) (y .b) || traced log t node (parentBy y) (y .b) || reachesItself node y (isRestated node (hist log t))
+
+unfoldable pub owesFirst : List ℕ → ℕ → ℕ → TraceRecord → Bool
+owesFirst log t node y = appliedFirst log t node y && anyOf (λ v. eqb v (serverOf node (hist log t) .0)) (y .voters)
+
+-- ---- what a node owes by the split that the record at place t registers, after n records, where its latest cancel is c
+
+unfoldable pub owesSplit : List ℕ → ℕ → ℕ → ℕ → ℕ → Bool
+owesSplit log n node t c =
+    ltb (max c (suc t))
+    (latestNumber (comes node (parentBy (recordAt log t)) (recordAt log t .b) (recordAt log t .voters)) (hist log n))
+    || leb c t && owesFirst log t node (recordAt log t)
+
+-- ---- what a node lacks by that split: it owes it and does not hold its right range
+
+unfoldable pub lacksSplit : List ℕ → ℕ → ℕ → ℕ → ℕ → Bool
+lacksSplit log n node t right = not (isHeld node right (hist log n)) && owesSplit log n node t (cancelNumber node right (hist log n))
+
+-- the number that was found
+abbrev pub foundIn : Found → Option ℕ
+foundIn (At n) = some n
+foundIn Nothing = none
+
+-- a number is below the lowest so far
+abbrev pub isBelow : ℕ → Option ℕ → Bool
+isBelow r none = true
+isBelow r (some b) = ltb r b
+
+-- the lowest so far, with the node of a record, if it is marked and passes
+abbrev pub loweredBy : (ℕ → Bool) → Node → Option ℕ → Option ℕ
+loweredBy p Missing best = best
+loweredBy p (Marked m) best = cond (p (m .0)) (lower (λ n. n) (m .0) best) best

@@ -1,0 +1,104 @@
+// The lowest right range that a node owes and does not hold: over the registered splits, the latest first.
+use crate::note::registering_by;
+use crate::owed::cancel_of;
+use crate::owed::owes_by;
+use crate::split::right_of;
+use crate::state::number_by;
+use history::log::record_at;
+use one_owner_per_key::held::held_by;
+use one_owner_per_key::held::latest_of;
+use record::named::NodeId;
+use rules::Found;
+ghost use mathlib.Core.Path.{_≡_};
+ghost use mathlib.Core.Bool.{cond};
+ghost use mathlib.Core.List.{map};
+ghost use Prim.Native.Nat.{_+_, _*_, _/_, _≤_, _<_};
+ghost use lib.ListN.{length, getD};
+ghost use Rattle.rules.specs.History.{lower, lowestOf};
+ghost use Rattle.rules.specs.RightHalf.{registered, isMissing};
+ghost use Rattle.history.specs.Logs.{hist};
+ghost use Rattle.history.specs.Bounds.{Bounds};
+ghost use Rattle.right_half.specs.Numbers.{refusedNumber};
+ghost use Rattle.right_half.specs.Index.{Known};
+ghost use Rattle.right_half.specs.Walk.{lacksSplit, foundIn, isBelow};
+
+// Whether a range is below the lowest so far.
+pub fn is_below(right: u64, best: Found) -> bool
+    ensures { λ r. ⌜ r ≡ isBelow right (foundIn best) ⌝ }
+{
+    match best {
+        Found::At(b) => right < b,
+        Found::Nothing => true,
+    }
+}
+
+// The number of the record that names the right range of the split that the record at a place registers.
+pub fn named_by(work: &[u64], cap: usize, at: usize) -> usize
+    requires { ⌜ (32 * cap ≤ length (now work)) × ((at < cap) × (cap ≤ 4096)) ⌝ }
+    ensures { λ r. ⌜ r ≡ getD (now (work .entry)) (26 * cap + at) 0 / 8192 ⌝ }
+{
+    (work[26 * cap + at] / 8192) as usize
+}
+
+// Whether a node lacks the right range of the split that the record at place t registers; refused: its latest refusal.
+fn is_lacking(
+    log: &[u8],
+    work: &[u64],
+    count: usize,
+    cap: usize,
+    node: NodeId,
+    refused: usize,
+    t: usize,
+    right: u64,
+) -> bool
+    requires { ⌜ Bounds (now log) (now work) count cap × (t < count) ⌝ }
+    ensures { λ r. ⌜ (Known cap (hist (now (log .entry)) count) (now (work .entry)) → refused ≡ refusedNumber (node .0) (hist (now (log .entry)) count) → r ≡ lacksSplit (now (log .entry)) count (node .0) t right) ⌝ }
+{
+    let held = held_by(log, work, count, cap, count, node, right);
+    if let Found::At(_) = held {
+        return false;
+    }
+    let cancel = cancel_of(log, work, count, cap, node, right, refused);
+    owes_by(log, work, count, cap, t, node, cancel)
+}
+
+// The lowest so far, with that right range.
+fn lowered(
+    log: &[u8],
+    work: &[u64],
+    count: usize,
+    cap: usize,
+    node: NodeId,
+    refused: usize,
+    t: usize,
+    right: u64,
+    best: Found,
+) -> Found
+    requires { ⌜ Bounds (now log) (now work) count cap × (t < count) ⌝ }
+    ensures { λ r. ⌜ (Known cap (hist (now (log .entry)) count) (now (work .entry)) → refused ≡ refusedNumber (node .0) (hist (now (log .entry)) count) → foundIn r ≡ cond (lacksSplit (now (log .entry)) count (node .0) t right) (lower (λ n. n) right (foundIn best)) (foundIn best)) ⌝ }
+{
+    if is_below(right, best) {
+        if is_lacking(log, work, count, cap, node, refused, t, right) {
+            return Found::At(right);
+        }
+    }
+    best
+}
+
+// The lowest right range that a node owes and does not hold. The Rust's `owed_and_missing`.
+pub fn lowest_missing(log: &[u8], work: &[u64], count: usize, cap: usize, node: NodeId) -> Found
+    requires { ⌜ Bounds (now log) (now work) count cap ⌝ }
+    ensures { λ r. ⌜ (Known cap (hist (now (log .entry)) count) (now (work .entry)) → foundIn r ≡ lowestOf (λ n. n) (isMissing (node .0) (hist (now (log .entry)) count)) (map (λ s. s .right) (registered (hist (now (log .entry)) count)))) ⌝ }
+{
+    let last = latest_of(log, work, count, cap, count, node);
+    let refused = number_by(work, 24 * cap, last);
+    let mut best = Found::Nothing;
+    let mut i = registering_by(work, cap, count);
+    while 0 < i {
+        let at = i - 1;
+        let right = right_of(log, count, record_at(log, at), named_by(work, cap, at));
+        best = lowered(log, work, count, cap, node, refused, at, right, best);
+        i = registering_by(work, cap, at);
+    }
+    best
+}

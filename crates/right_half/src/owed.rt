@@ -1,0 +1,300 @@
+// What a node owes: for each registered split the latest record at which the node came to owe its right range, against
+// the latest that cancelled it.
+use crate::split::has_taken;
+use crate::split::is_voter;
+use crate::split::parent_of;
+use crate::state::number_by;
+use crate::state::server_by;
+use history::chain::link;
+use history::log::record_at;
+use one_owner_per_key::held::hold_bucket;
+use one_owner_per_key::held::is_by;
+use one_owner_per_key::held::latest_of;
+use record::field;
+use record::named::NodeId;
+use record::named::ServerId;
+ghost use mathlib.Core.Path.{_≡_};
+ghost use mathlib.Core.Bool.{Bool, true, false, not, _&&_, _||_};
+ghost use Prim.Native.Nat.{_+_, _*_, _≤_, _<_};
+ghost use lib.ListN.{length};
+ghost use lib.Dec.{eqb, leb, ltb};
+ghost use Rattle.record.specs.Records.{decode};
+ghost use Rattle.rules.specs.History.{isBy, anyOf};
+ghost use Rattle.history.specs.Logs.{hist, recordAt};
+ghost use Rattle.one_owner_per_key.specs.Numbers.{latestNumber, latestBy};
+ghost use Rattle.history.specs.Bounds.{Bounds};
+ghost use Rattle.right_half.specs.Numbers.{refusedNumber, cancelNumber};
+ghost use Rattle.right_half.specs.Index.{Known};
+ghost use Rattle.right_half.specs.Splits.{parentBy};
+ghost use Rattle.right_half.specs.Walk.{asksKind, asks, applying, comes, above, reached, traced, appliedFirst, owesFirst, owesSplit};
+
+// Which records of a node and a range are looked for: a RangeRemoved, a RangeSplit at an index, a RangeDescriptor that
+// records an index.
+pub enum Asked {
+    Removed,
+    Traced(u64),
+    Recording,
+}
+
+// Whether a record is of the kind looked for; mark: its node's latest RangesRestated.
+fn is_asked(rec: &[u8], mark: u64, asked: Asked) -> bool
+    requires { ⌜ length (now rec) ≡ 368 ⌝ }
+    ensures { λ r. ⌜ r ≡ asksKind asked (decode (now (rec .entry))) (not (eqb mark 0)) ⌝ }
+{
+    let kind = field::kind(rec);
+    match asked {
+        Asked::Removed => kind == 9,
+        Asked::Traced(index) => (kind == 7) & (field::b(rec) == index),
+        Asked::Recording => (kind == 2) & (mark == 0),
+    }
+}
+
+// Whether it is one of a node and a range.
+fn is_asked_of(rec: &[u8], mark: u64, node: NodeId, range: u64, asked: Asked) -> bool
+    requires { ⌜ length (now rec) ≡ 368 ⌝ }
+    ensures { λ r. ⌜ r ≡ (isBy (node .0) (decode (now (rec .entry))) && eqb (decode (now (rec .entry)) .a) range && asksKind asked (decode (now (rec .entry))) (not (eqb mark 0))) ⌝ }
+{
+    is_by(rec, node) & (field::a(rec) == range) & is_asked(rec, mark, asked)
+}
+
+// The number of the latest such record of the first top, where it is above a floor, else 0.
+pub fn latest_asked(
+    log: &[u8],
+    work: &[u64],
+    count: usize,
+    cap: usize,
+    top: usize,
+    floor: usize,
+    node: NodeId,
+    range: u64,
+    asked: Asked,
+) -> usize
+    requires { ⌜ Bounds (now log) (now work) count cap × (top ≤ count) ⌝ }
+    ensures within { λ r. ⌜ r ≤ top ⌝ }
+    ensures latest { λ r. ⌜ (Known cap (hist (now (log .entry)) count) (now (work .entry)) → r ≡ above floor (latestNumber (asks asked (node .0) range) (hist (now (log .entry)) top))) ⌝ }
+{
+    let mut i = link(work, 16 * cap + hold_bucket(cap, node, range), count);
+    while floor < i {
+        let at = i - 1;
+        if (i <= top) & is_asked_of(record_at(log, at), work[23 * cap + at], node, range, asked) {
+            return i;
+        }
+        i = link(work, 17 * cap + at, at);
+    }
+    0
+}
+
+// Whether a record applies a split at an index; mark: its node's latest RangesRestated.
+fn is_applying(rec: &[u8], mark: u64, index: u64) -> bool
+    requires { ⌜ length (now rec) ≡ 368 ⌝ }
+    ensures { λ r. ⌜ r ≡ applying index (decode (now (rec .entry))) (not (eqb mark 0)) ⌝ }
+{
+    let kind = field::kind(rec);
+    (((kind == 7) | has_taken(rec)) & (field::b(rec) == index))
+        | ((kind == 2) & (mark == 0) & (index <= field::c(rec)))
+}
+
+// Whether a node comes to owe at a record by the split of a range at an index that another record registered; server:
+// what its node is there.
+fn is_coming(
+    rec: &[u8],
+    mark: u64,
+    server: u64,
+    node: NodeId,
+    range: u64,
+    index: u64,
+    split: &[u8],
+) -> bool
+    requires { ⌜ (length (now rec) ≡ 368) × (length (now split) ≡ 368) ⌝ }
+    ensures { λ r. ⌜ r ≡ (isBy (node .0) (decode (now (rec .entry))) && eqb (decode (now (rec .entry)) .a) range && applying index (decode (now (rec .entry))) (not (eqb mark 0)) && anyOf (λ v. eqb v server) (decode (now (split .entry)) .voters)) ⌝ }
+{
+    if is_by(rec, node) & (field::a(rec) == range) & is_applying(rec, mark, index) {
+        return is_voter(split, ServerId(server));
+    }
+    false
+}
+
+// The number of the latest record above a floor at which a node comes to owe by its own application of a split of a range.
+fn latest_coming(
+    log: &[u8],
+    work: &[u64],
+    count: usize,
+    cap: usize,
+    floor: usize,
+    node: NodeId,
+    range: u64,
+    index: u64,
+    split: &[u8],
+) -> usize
+    requires { ⌜ Bounds (now log) (now work) count cap × (length (now split) ≡ 368) ⌝ }
+    ensures { λ r. ⌜ (Known cap (hist (now (log .entry)) count) (now (work .entry)) → r ≡ above floor (latestNumber (comes (node .0) range index (decode (now (split .entry)) .voters)) (hist (now (log .entry)) count))) ⌝ }
+{
+    let mut i = link(work, 16 * cap + hold_bucket(cap, node, range), count);
+    while floor < i {
+        let at = i - 1;
+        if is_coming(
+            record_at(log, at),
+            work[23 * cap + at],
+            work[22 * cap + at],
+            node,
+            range,
+            index,
+            split,
+        ) {
+            return i;
+        }
+        i = link(work, 17 * cap + at, at);
+    }
+    0
+}
+
+// The number of the latest record that cancels what a node owes of a right range: its RangeRemoved, or the node's refusal.
+pub fn cancel_of(
+    log: &[u8],
+    work: &[u64],
+    count: usize,
+    cap: usize,
+    node: NodeId,
+    right: u64,
+    refused: usize,
+) -> usize
+    requires { ⌜ Bounds (now log) (now work) count cap ⌝ }
+    ensures { λ r. ⌜ (Known cap (hist (now (log .entry)) count) (now (work .entry)) → refused ≡ refusedNumber (node .0) (hist (now (log .entry)) count) → r ≡ cancelNumber (node .0) right (hist (now (log .entry)) count)) ⌝ }
+{
+    let removed = latest_asked(
+        log,
+        work,
+        count,
+        cap,
+        count,
+        refused,
+        node,
+        right,
+        Asked::Removed,
+    );
+    if removed == 0 { refused } else { removed }
+}
+
+// Whether the index that a node recorded for a range reaches an index; refused: its latest refusal as of the first top records.
+pub fn is_reached(
+    log: &[u8],
+    work: &[u64],
+    count: usize,
+    cap: usize,
+    top: usize,
+    refused: usize,
+    node: NodeId,
+    range: u64,
+    index: u64,
+) -> bool
+    requires { ⌜ Bounds (now log) (now work) count cap × (top ≤ count) ⌝ }
+    ensures { λ r. ⌜ (Known cap (hist (now (log .entry)) count) (now (work .entry)) → refused ≡ refusedNumber (node .0) (hist (now (log .entry)) top) → r ≡ reached (now (log .entry)) top (node .0) range index) ⌝ }
+{
+    let k = latest_asked(
+        log,
+        work,
+        count,
+        cap,
+        top,
+        refused,
+        node,
+        range,
+        Asked::Recording,
+    );
+    if k == 0 {
+        return false;
+    }
+    index <= field::c(record_at(log, k - 1))
+}
+
+// Whether a record is its node's own RangeDescriptor that has applied the split it registers; restated: whether the node is.
+fn is_reaching(rec: &[u8], node: NodeId, restated: usize) -> bool
+    requires { ⌜ length (now rec) ≡ 368 ⌝ }
+    ensures { λ r. ⌜ r ≡ (isBy (node .0) (decode (now (rec .entry))) && eqb (decode (now (rec .entry)) .kind) 2 && eqb restated 0 && leb (decode (now (rec .entry)) .b) (decode (now (rec .entry)) .c)) ⌝ }
+{
+    is_by(rec, node) & (field::kind(rec) == 2) & (restated == 0) & (field::b(rec) <= field::c(rec))
+}
+
+// Whether a node has applied the split that the record at place t registers by then, or applies it there.
+fn is_applied_first(
+    log: &[u8],
+    work: &[u64],
+    count: usize,
+    cap: usize,
+    t: usize,
+    node: NodeId,
+    last: usize,
+    rec: &[u8],
+) -> bool
+    requires { ⌜ Bounds (now log) (now work) count cap × ((t ≤ count) × ((last ≤ t) × (length (now rec) ≡ 368))) ⌝ }
+    ensures { λ r. ⌜ (Known cap (hist (now (log .entry)) count) (now (work .entry)) → last ≡ latestBy (node .0) (hist (now (log .entry)) t) → r ≡ appliedFirst (now (log .entry)) t (node .0) (decode (now (rec .entry)))) ⌝ }
+{
+    let refused = number_by(work, 24 * cap, last);
+    let parent = parent_of(rec);
+    let index = field::b(rec);
+    if is_reached(log, work, count, cap, t, refused, node, parent, index) {
+        return true;
+    }
+    if latest_asked(
+        log,
+        work,
+        count,
+        cap,
+        t,
+        refused,
+        node,
+        parent,
+        Asked::Traced(index),
+    )
+        != 0
+    {
+        return true;
+    }
+    is_reaching(rec, node, number_by(work, 23 * cap, last))
+}
+
+// Whether a node comes to owe where the record at place t registers a split.
+fn owes_first(
+    log: &[u8],
+    work: &[u64],
+    count: usize,
+    cap: usize,
+    t: usize,
+    node: NodeId,
+    rec: &[u8],
+) -> bool
+    requires { ⌜ Bounds (now log) (now work) count cap × ((t ≤ count) × (length (now rec) ≡ 368)) ⌝ }
+    ensures { λ r. ⌜ (Known cap (hist (now (log .entry)) count) (now (work .entry)) → r ≡ owesFirst (now (log .entry)) t (node .0) (decode (now (rec .entry)))) ⌝ }
+{
+    let last = latest_of(log, work, count, cap, t, node);
+    if is_applied_first(log, work, count, cap, t, node, last, rec) {
+        return is_voter(rec, server_by(work, cap, last, node));
+    }
+    false
+}
+
+// Whether a node owes by the split that the record at place t registers; cancel: the latest that cancels its right range.
+pub fn owes_by(
+    log: &[u8],
+    work: &[u64],
+    count: usize,
+    cap: usize,
+    t: usize,
+    node: NodeId,
+    cancel: usize,
+) -> bool
+    requires { ⌜ Bounds (now log) (now work) count cap × (t < count) ⌝ }
+    ensures { λ r. ⌜ (Known cap (hist (now (log .entry)) count) (now (work .entry)) → r ≡ owesSplit (now (log .entry)) count (node .0) t cancel) ⌝ }
+{
+    let split = record_at(log, t);
+    let parent = parent_of(split);
+    let index = field::b(split);
+    let floor = if cancel <= t { t + 1 } else { cancel };
+    if latest_coming(log, work, count, cap, floor, node, parent, index, split) != 0 {
+        return true;
+    }
+    if t < cancel {
+        return false;
+    }
+    owes_first(log, work, count, cap, t, node, split)
+}
