@@ -1,0 +1,46 @@
+-- What the answers of this crate's functions stand for in the rules.
+use mathlib.Core.Bool.{Bool, cond, _&&_, _||_, not}
+use mathlib.Core.List.{List}
+use mathlib.Core.Option.{Option, none, some}
+use Prim.Native.Nat.{ℕ, zero, suc}
+use lib.Dec.{eqb, ltb}
+use Rattle.record.specs.Records.{TraceRecord}
+use Rattle.rules.specs.declared.Found.{Found}
+use Rattle.rules.specs.declared.Found.the-variants.{At, Nothing}
+use Rattle.rules.specs.History.{History, anyOf}
+use Rattle.rules.specs.Descriptors.{spanOf, before}
+use Rattle.rules.specs.GenerationsRise.{Write, generationOf, writes}
+use Rattle.history.specs.Logs.{recordAt}
+use Rattle.ids_unique.specs.Firsts.{firstWrite}
+use Rattle.generations_rise.specs.declared.write.Written.{Written}
+use Rattle.generations_rise.specs.declared.write.Written.the-variants.{Not, Unrated, Rated}
+
+-- what a record's write counts as: none, one with no generation, one at a generation
+abbrev pub ratedAs : Option ℕ → Written
+ratedAs none = Unrated
+ratedAs (some g) = Rated g
+
+abbrev pub writtenOf : Option Write → Written
+writtenOf none = Not
+writtenOf (some w) = ratedAs (w .generation)
+
+unfoldable pub writtenAs : TraceRecord → History → Written
+writtenAs x h = writtenOf (firstWrite x h)
+
+-- the write of a record, whether it counts or not
+abbrev pub writeOf : TraceRecord → History → Write
+writeOf x h = record { range = x .a; index = x .b; key = spanOf 0 x .start; generation = generationOf (before (x .a) (x .b) h) }
+
+-- the generation of the record that `before` found among count
+unfoldable pub foundGeneration : List ℕ → ℕ → Found → Written
+foundGeneration log count Nothing = Unrated
+foundGeneration log count (At zero) = Unrated
+foundGeneration log count (At (suc k)) = cond (ltb k count) (Rated (recordAt log k .d)) Unrated
+
+-- a write at a range and index
+abbrev pub placed : ℕ → ℕ → Write → Bool
+placed range index o = eqb range (o .range) && eqb index (o .index)
+
+-- "a higher generation, or another range and the same generation"
+abbrev pub against : ℕ → ℕ → ℕ → ℕ → Bool
+against range generation by last = ltb generation last || (not (eqb by range) && eqb last generation)
