@@ -1,13 +1,12 @@
 -- Laws of the generations case: which way it goes, by what the record's write counts as and by the key's last write.
 use mathlib.Core.Path.{_≡_, refl, sym, ap, _∙_}
-use mathlib.Core.Bool.{Bool, true, false, cond, not, _&&_, _||_}
+use mathlib.Core.Bool.{Bool, true, false, _&&_}
 use mathlib.Core.List.{List, [], _∷_}
 use mathlib.Core.Option.{Option, none, some}
-use Prim.Native.Nat.{ℕ, zero, suc, _+_, _*_, _-_, _≤_, _<_}
+use Prim.Native.Nat.{ℕ, suc, _+_, _*_, _-_, _≤_}
 use native.Mathlib.Omega.{arith}
-use lib.ListN.{length, getD}
-use lib.Dec.{eqb, ltb}
-use Rattle.record.specs.Keys.{Key, keyEqb}
+use lib.ListN.{getD}
+use Rattle.record.specs.Keys.{keyEqb}
 use Rattle.record.specs.Records.{TraceRecord}
 use Rattle.rules.specs.declared.Case.{Case}
 use Rattle.rules.specs.declared.Case.the-variants.{Clear}
@@ -19,10 +18,8 @@ use Rattle.rules.specs.GenerationsRise.{Write, tellsWrite, sameWrite, writes, i
 use Rattle.rules.specs.Reports.{atLast, reportOf}
 use Rattle.rules.proofs.Booleans.{none-some}
 use Rattle.history.specs.Logs.{recordAt, hist}
-use Rattle.history.specs.Columns.{Column, cellOf}
 use Rattle.history.proofs.Cells.{cell-at}
 use Rattle.ids_unique.specs.Firsts.{firstWrite}
-use Rattle.generations_rise.specs.declared.write.Written.{Written}
 use Rattle.generations_rise.specs.declared.write.Written.the-variants.{Not, Unrated, Rated}
 use Rattle.generations_rise.specs.Writes.{generationBy, lastWriteAt, GenerationsIndexed}
 use Rattle.generations_rise.specs.Answers.{ratedAs, writtenOf, writtenAs, writeOf, against}

@@ -1,9 +1,9 @@
 -- Laws of a key's writes: a key's number and bucket, the last write of a key along its chain, and what that write is.
 use mathlib.Core.Path.{_≡_, refl, sym, ap, _∙_}
-use mathlib.Core.Bool.{Bool, true, false, cond, not, _&&_, _||_}
+use mathlib.Core.Bool.{Bool, true, false, _&&_}
 use mathlib.Core.List.{List, [], _∷_}
 use mathlib.Core.Option.{Option, none, some}
-use Prim.Native.Nat.{ℕ, zero, suc, _+_, _-_, _*_, _%_, _≤_, _<_}
+use Prim.Native.Nat.{ℕ, zero, suc, _+_, _-_, _≤_, _<_}
 use native.Mathlib.Omega.{arith}
 use native.Mathlib.Numerals.{add-one}
 use lib.ListN.{length, getD, drop, drop-of-length-le}
@@ -13,7 +13,7 @@ use Rattle.record.specs.Records.{TraceRecord}
 use Rattle.record.proofs.Keys.{listEqb-same}
 use Rattle.rules.specs.History.{History, when, given, isSome, holds, latestOf}
 use Rattle.rules.specs.Descriptors.{spanOf}
-use Rattle.rules.specs.GenerationsRise.{Write, lastGeneration, writes, isEarlier, tellsWrite, sameWrite}
+use Rattle.rules.specs.GenerationsRise.{Write, writes, isEarlier, tellsWrite, sameWrite}
 use Rattle.rules.proofs.Booleans.{none-some}
 use Rattle.rules.proofs.Skips.{latestOf-nil, latestOf-hit, latestOf-skip, firsts-nil}
 use Rattle.history.specs.Logs.{recordAt, hist}
@@ -23,7 +23,7 @@ use Rattle.history.proofs.Tellings.{when-holds, when-value}
 use Rattle.history.proofs.Chains.{In, latest-here, latest-else}
 use Rattle.history.proofs.Walks.{look-less, look-end, look-outside}
 use Rattle.ids_unique.specs.Firsts.{firstWrite}
-use Rattle.generations_rise.specs.Writes.{ratedWrite, rolled, rolledAll, keyNumber, bucketByKey, keyBucket, generationBy, writesKey, lastWriteAt}
+use Rattle.generations_rise.specs.Writes.{ratedWrite, rolled, rolledAll, bucketByKey, keyBucket, generationBy, writesKey, lastWriteAt}
 use Rattle.generations_rise.specs.Answers.{writeOf}
 use Rattle.generations_rise.proofs.Writes.{write-is, writes-more, writes-same}
 

@@ -1,27 +1,27 @@
 -- Laws of taking a record: its write into the chain of the firsts and, where it has a generation, into its key's chain.
 use mathlib.Core.Path.{_≡_, refl, sym, ap, _∙_}
 use mathlib.Core.Bool.{Bool, true, false}
-use mathlib.Core.List.{List, [], _∷_}
-use mathlib.Core.Option.{Option, none, some}
-use Prim.Native.Nat.{ℕ, suc, _+_, _*_, _≤_, _<_}
+use mathlib.Core.List.{List, _∷_}
+use mathlib.Core.Option.{some}
+use Prim.Native.Nat.{ℕ, _+_, _*_, _<_}
 use native.Mathlib.Omega.{arith}
-use lib.ListN.{length, getD}
+use lib.ListN.{length}
 use Rattle.record.specs.Records.{TraceRecord}
 use Rattle.rules.specs.History.{History, isKind}
 use Rattle.rules.specs.Descriptors.{spanOf}
 use Rattle.rules.specs.GenerationsRise.{Write}
 use Rattle.history.specs.Buckets.{bucketByTwo}
 use Rattle.history.specs.Columns.{Put, Entered, Chained}
-use Rattle.history.proofs.Cells.{Same, put-apart, entered-apart, column-agrees, column-put, column-none}
+use Rattle.history.proofs.Cells.{put-apart, entered-apart, column-agrees, column-put, column-none}
 use Rattle.history.proofs.Chains.{chained-agrees, entered, not-entered}
-use Rattle.ids_unique.specs.Firsts.{firstWrite, firstBucket, FirstsIndexed}
+use Rattle.ids_unique.specs.Firsts.{firstWrite, FirstsIndexed}
 use Rattle.ids_unique.proofs.Firsts.{first-none}
 use Rattle.ids_unique.specs.Noted.{IdsNoted}
 use Rattle.descriptors.specs.Index.{DescriptorsIndexed}
 use Rattle.generations_rise.specs.declared.write.Written.{Written}
 use Rattle.generations_rise.specs.declared.write.Written.the-variants.{Not, Unrated, Rated}
-use Rattle.generations_rise.specs.Writes.{keyBucket, bucketByKey, generationBy, GenerationsIndexed}
-use Rattle.generations_rise.specs.Answers.{writtenAs, writeOf}
+use Rattle.generations_rise.specs.Writes.{keyBucket, bucketByKey, generationBy}
+use Rattle.generations_rise.specs.Answers.{writtenAs}
 use Rattle.generations_rise.specs.Noted.{GenerationsNoted, GenerationsTaken}
 use Rattle.generations_rise.proofs.Writes.{write-is, write-in, written-not-granted, as-none, not-apply}
 use Rattle.generations_rise.proofs.KeyWrites.{rated-none, rated-without, rated-with, key-in, key-none, generation-none, generation-without, generation-with}

@@ -1,29 +1,29 @@
 -- A law about the rules, without code: while no generations fault arose, a key's last write alone decides whether any earlier
 -- write of the key opposes a new one. It is what lets the check compare with that write only.
 use mathlib.Core.Path.{_≡_, refl, sym, ap, _∙_}
-use mathlib.Core.Bool.{Bool, true, false, cond, not, _&&_, _||_}
+use mathlib.Core.Bool.{Bool, true, false, not, _&&_, _||_}
 use mathlib.Core.List.{List, [], _∷_}
 use mathlib.Core.Logic.{_⊎_, inl, inr, ⊎-elim}
 use mathlib.Core.Option.{Option, none, some}
-use Prim.Native.Nat.{ℕ, _≤_, _<_}
+use Prim.Native.Nat.{ℕ, _<_}
 use native.Mathlib.Omega.{arith}
 use native.Mathlib.Decide.{decLt, ℕ-discrete}
 use lib.Dec.{eqb, ltb}
-use borrow.Author.Tests.{ltb-true, lt-ltb, le-ltb, eqb-true, eqb-false, eq-eqb, ne-eqb, not-true}
-use Rattle.record.specs.Keys.{Key, keyEqb, listEqb}
+use borrow.Author.Tests.{ltb-true, lt-ltb, eqb-true, eqb-false, eq-eqb, ne-eqb, not-true}
+use Rattle.record.specs.Keys.{Key, keyEqb}
 use Rattle.record.specs.Records.{TraceRecord}
-use Rattle.record.proofs.Keys.{listEqb-refl, listEqb-same}
+use Rattle.record.proofs.Keys.{listEqb-same}
 use Rattle.rules.specs.declared.Report.{Report}
 use Rattle.rules.specs.declared.Case.{Case}
 use Rattle.rules.specs.declared.Case.the-variants.{Clear, Fault}
 use Rattle.rules.specs.declared.Verdict.{Verdict}
 use Rattle.rules.specs.declared.Verdict.the-variants.{Pass, Faulted}
 use Rattle.rules.specs.History.{History, holds, isSome, anyOf, latestOf, firsts}
-use Rattle.rules.specs.Cases.{isFault, faultIf, caseOf}
-use Rattle.rules.specs.GenerationsRise.{Write, tellsWrite, sameWrite, writes, isEarlier, opposes, riseFault, writeFault, generationsAt}
+use Rattle.rules.specs.Cases.{isFault}
+use Rattle.rules.specs.GenerationsRise.{Write, tellsWrite, sameWrite, writes, isEarlier, opposes, writeFault, generationsAt}
 use Rattle.rules.specs.Reports.{AtRecord, atLast, Arises, atFirst, reportOf}
 use Rattle.rules.proofs.Booleans.{and-left, and-right, both, or-cases, or-left, or-right}
-use Rattle.rules.proofs.Members.{Mem, Passing, anyOf-mem, anyOf-some, anyOf-none}
+use Rattle.rules.proofs.Members.{anyOf-mem, anyOf-some, anyOf-none}
 use Rattle.ids_unique.proofs.Firsts.{any-latest}
 use Rattle.rules.proofs.Skips.{anyOf-nil, anyOf-skip, latestOf-nil, latestOf-hit, latestOf-skip, firsts-nil, firsts-hit, firsts-skip, firsts-known}
 

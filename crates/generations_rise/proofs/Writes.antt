@@ -1,23 +1,23 @@
 -- Laws of the writes that count: which records have one, where a walk finds them, and at which generation.
 use mathlib.Core.Path.{_≡_, refl, sym, ap, _∙_}
-use mathlib.Core.Bool.{Bool, true, false, cond, not, _&&_, _||_}
+use mathlib.Core.Bool.{Bool, true, false, cond, _&&_}
 use mathlib.Core.List.{List, [], _∷_}
 use mathlib.Core.Option.{Option, none, some}
 use Prim.Native.Nat.{ℕ, zero, suc, _-_, _≤_, _<_}
 use native.Mathlib.Omega.{arith}
 use lib.ListN.{length}
-use lib.Dec.{eqb, ltb, leb}
-use borrow.Author.Tests.{eq-eqb, ne-eqb, eqb-true, lt-ltb, le-ltb}
+use lib.Dec.{eqb, leb}
+use borrow.Author.Tests.{ne-eqb, eqb-true, lt-ltb, le-ltb}
 use Rattle.record.specs.declared.named.ApplyEffect.the-variants.{Applied}
 use Rattle.record.specs.Named.{effectOf, effectNumber}
 use Rattle.record.specs.Records.{TraceRecord, decode}
 use Rattle.rules.specs.declared.Found.{Found}
 use Rattle.rules.specs.declared.Found.the-variants.{At, Nothing}
-use Rattle.rules.specs.History.{History, isKind, when, given, anyOf, firsts}
-use Rattle.rules.specs.Descriptors.{Entry, Role, puts, states, neither, roleOf, entryAt, putBy, tellsPut, samePlace, standing, before, heldBy, spanOf}
+use Rattle.rules.specs.History.{History, isKind, given, anyOf, firsts}
+use Rattle.rules.specs.Descriptors.{Entry, Role, puts, states, neither, roleOf, putBy, tellsPut, samePlace, standing, before, heldBy}
 use Rattle.rules.specs.GenerationsRise.{Write, hasEffect, generationOf, tellsWrite, sameWrite, writes}
 use Rattle.rules.proofs.Booleans.{and-left, and-right, none-some}
-use Rattle.rules.proofs.Members.{Mem, here, there, mem-nil, mem-cons}
+use Rattle.rules.proofs.Members.{Mem, mem-nil, mem-cons}
 use Rattle.rules.proofs.Skips.{anyOf-nil, anyOf-hit, anyOf-skip, firsts-nil, firsts-hit, firsts-skip, firsts-known}
 use Rattle.rules.proofs.LookUps.{Looked, Below, Nearest, before-right}
 use Rattle.history.specs.Logs.{bytesAt, recordAt, hist}
@@ -31,7 +31,7 @@ use Rattle.ids_unique.proofs.Firsts.{no-grant}
 use Rattle.descriptors.specs.Answers.{foundBy}
 use Rattle.generations_rise.specs.declared.write.Written.{Written}
 use Rattle.generations_rise.specs.declared.write.Written.the-variants.{Not, Unrated, Rated}
-use Rattle.generations_rise.specs.Answers.{ratedAs, writtenOf, writtenAs, writeOf, foundGeneration, placed}
+use Rattle.generations_rise.specs.Answers.{ratedAs, writtenAs, writeOf, foundGeneration, placed}
 
 -- an Applied write is one with sub-code 1
 applied-code : (c : ℕ) → eqb (effectNumber (effectOf c)) 1 ≡ eqb c 1

@@ -7,9 +7,9 @@ use lib.Dec.{eqb, ltb}
 use Rattle.record.specs.Records.{TraceRecord}
 use Rattle.rules.specs.declared.Found.{Found}
 use Rattle.rules.specs.declared.Found.the-variants.{At, Nothing}
-use Rattle.rules.specs.History.{History, anyOf}
+use Rattle.rules.specs.History.{History}
 use Rattle.rules.specs.Descriptors.{spanOf, before}
-use Rattle.rules.specs.GenerationsRise.{Write, generationOf, writes}
+use Rattle.rules.specs.GenerationsRise.{Write, generationOf}
 use Rattle.history.specs.Logs.{recordAt}
 use Rattle.ids_unique.specs.Firsts.{firstWrite}
 use Rattle.generations_rise.specs.declared.write.Written.{Written}

@@ -1,10 +1,8 @@
 -- The columns of `GenerationsRise`: the writes of a key that count and have a generation, and that generation.
-use mathlib.Core.Bool.{Bool}
 use mathlib.Core.List.{List, [], _∷_}
-use mathlib.Core.Option.{Option, none, some}
+use mathlib.Core.Option.{some}
 use Prim.Native.Nat.{ℕ, _+_, _-_, _*_, _%_}
 use lib.ListN.{length, drop}
-use lib.Dec.{eqb}
 use Rattle.record.specs.Keys.{Key, keyEqb}
 use Rattle.record.specs.Records.{TraceRecord}
 use Rattle.rules.specs.History.{History, Tells, when, given, isSome}

@@ -15,8 +15,6 @@ ghost use Rattle.record.specs.Records.{decode};
 ghost use Rattle.rules.specs.History.{History};
 ghost use Rattle.history.specs.Bounds.{Bounds};
 ghost use Rattle.history.specs.Logs.{hist};
-ghost use Rattle.ids_unique.specs.Firsts.{FirstsIndexed};
-ghost use Rattle.descriptors.specs.Index.{DescriptorsIndexed};
 ghost use Rattle.generations_rise.specs.Noted.{GenerationsNoted, GenerationsTaken};
 
 // A write that counts and has no generation.

@@ -1,11 +1,11 @@
 -- Laws of the blocks: which records have one, what the two columns say of them, and a walk from block to block.
 use mathlib.Core.Path.{_≡_, refl, sym, ap, _∙_}
-use mathlib.Core.Bool.{Bool, true, false, cond}
+use mathlib.Core.Bool.{Bool, true, false}
 use mathlib.Core.List.{List, [], _∷_}
 use mathlib.Core.Option.{Option, none, some}
 use Prim.Native.Nat.{ℕ, suc, _+_, _*_, _-_, _≤_, _<_}
 use native.Mathlib.Omega.{arith}
-use lib.ListN.{length, getD}
+use lib.ListN.{getD}
 use Rattle.record.specs.Records.{TraceRecord}
 use Rattle.rules.specs.History.{History, when, given, those, firsts}
 use Rattle.rules.specs.IdsUnique.{Grant, grantBy, nonempty, firstGrants, blocksOf}
@@ -14,10 +14,10 @@ use Rattle.history.specs.Columns.{Column, cellOf, latestIn, clamp}
 use Rattle.history.proofs.Logs.{hist-less}
 use Rattle.history.proofs.Tellings.{when-value, when-holds}
 use Rattle.history.proofs.Cells.{cell-at}
-use Rattle.history.proofs.Chains.{In, Stands, latest-bound, latest-in, latest-else, skip, clamped}
+use Rattle.history.proofs.Chains.{In, Stands, latest-bound, latest-in, skip, clamped}
 use Rattle.history.proofs.Walks.{look-less, look-end, look-outside}
 use Rattle.ids_unique.specs.Firsts.{firstGrant}
-use Rattle.ids_unique.specs.Blocks.{tellsBlock, blockBucket, latestBlock, blockLink, greatestOfLasts, lastAfter, IdsIndexed}
+use Rattle.ids_unique.specs.Blocks.{tellsBlock, blockBucket, latestBlock, greatestOfLasts, IdsIndexed}
 use Rattle.ids_unique.proofs.Firsts.{never, grant-is, grants-more, grants-same}
 
 module _ (x : TraceRecord) (h : History) where

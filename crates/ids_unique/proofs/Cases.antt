@@ -1,18 +1,18 @@
 -- Laws of the ids case: which way it goes, by what was read and found.
-use mathlib.Core.Path.{_≡_, refl, sym, ap, _∙_}
+use mathlib.Core.Path.{_≡_, sym, ap, _∙_}
 use mathlib.Core.Bool.{Bool, true, false, not}
 use mathlib.Core.List.{List, [], _∷_}
 use mathlib.Core.Option.{Option, none, some}
-use Prim.Native.Nat.{ℕ, zero, suc, _-_, _≤_, _<_}
+use Prim.Native.Nat.{ℕ, suc, _-_, _≤_, _<_}
 use native.Mathlib.Omega.{arith}
 use lib.Dec.{eqb, leb}
 use borrow.Author.Tests.{eq-eqb, ne-eqb, le-leb, lt-leb}
 use Rattle.record.specs.Records.{TraceRecord, decode}
 use Rattle.rules.specs.declared.Case.{Case}
 use Rattle.rules.specs.declared.Case.the-variants.{Clear}
-use Rattle.rules.specs.History.{History, isKind, latestOf, anyOf}
+use Rattle.rules.specs.History.{History, latestOf, anyOf}
 use Rattle.rules.specs.Cases.{fault, faultIf}
-use Rattle.rules.specs.IdsUnique.{Grant, grantBy, grantEqb, sameIndex, firstGrants, nonempty, shares, blocksOf, sharedFault, firstFault, grantFault, idsAt}
+use Rattle.rules.specs.IdsUnique.{Grant, grantBy, grantEqb, sameIndex, firstGrants, shares, blocksOf, sharedFault, firstFault, grantFault, idsAt}
 use Rattle.history.specs.Logs.{bytesAt, recordAt, hist}
 use Rattle.history.proofs.Logs.{record-bytes}
 use Rattle.ids_unique.specs.declared.block.Shared.{Shared}

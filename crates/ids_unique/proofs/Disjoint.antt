@@ -1,9 +1,9 @@
 -- A law about the rules, without code: while no ids fault arose, the greatest older first not above the new last decides whether
 -- any block shares an id with the new one. It is what lets the Rust look at that block alone.
 use mathlib.Core.Path.{_≡_, refl, sym, ap, _∙_}
-use mathlib.Core.Bool.{Bool, true, false, cond, _&&_, _||_}
+use mathlib.Core.Bool.{Bool, true, false, cond, _||_}
 use mathlib.Core.List.{List, [], _∷_}
-use mathlib.Core.Logic.{_⊎_, inl, inr}
+use mathlib.Core.Logic.{inl, inr}
 use mathlib.Core.Option.{Option, none, some}
 use Prim.Native.Nat.{ℕ, _≤_, _<_}
 use native.Mathlib.Omega.{arith}
@@ -15,7 +15,6 @@ use Rattle.rules.specs.Cases.{isFault, faultIf}
 use Rattle.rules.specs.IdsUnique.{Grant, grantBy, sameIndex, firstGrants, nonempty, shares, blocksOf, sharedFault, firstFault, idsAt}
 use Rattle.rules.specs.Reports.{Arises}
 use Rattle.rules.proofs.Booleans.{and-left, and-right}
-use Rattle.ids_unique.specs.Firsts.{firstGrant}
 use Rattle.ids_unique.specs.Blocks.{tellsBlock}
 use Rattle.ids_unique.proofs.Firsts.{never, grant-kind, grant-is, grant-known, any-latest}
 use Rattle.ids_unique.proofs.Blocks.{block-first, block-full, blocks-more, blocks-same}

@@ -3,17 +3,15 @@ use mathlib.Core.Path.{_≡_, refl, sym, ap, _∙_}
 use mathlib.Core.Bool.{Bool, true, false, cond, _&&_, _||_}
 use mathlib.Core.List.{List, [], _∷_}
 use mathlib.Core.Option.{Option, none, some}
-use Prim.Native.Nat.{ℕ, zero, suc, _-_, _≤_, _<_}
+use Prim.Native.Nat.{ℕ, zero, suc, _-_, _<_}
 use native.Mathlib.Omega.{arith}
 use lib.ListN.{length}
 use lib.Dec.{eqb}
 use borrow.Author.Tests.{eq-eqb, ne-eqb, eqb-true}
 use Rattle.record.specs.Records.{TraceRecord, decode}
-use Rattle.rules.specs.declared.Found.{Found}
 use Rattle.rules.specs.declared.Found.the-variants.{At, Nothing}
-use Rattle.rules.specs.History.{History, isKind, when, given, isSome, anyOf, latestOf, firsts}
+use Rattle.rules.specs.History.{History, isKind, given, isSome, anyOf, latestOf, firsts}
 use Rattle.rules.specs.IdsUnique.{Grant, grantBy, tellsGrant, sameIndex, firstGrants}
-use Rattle.rules.specs.GenerationsRise.{Write, tellsWrite}
 use Rattle.rules.proofs.Booleans.{and-left, and-right}
 use Rattle.rules.proofs.Skips.{told-hit, told-skip}
 use Rattle.history.specs.Logs.{bytesAt, recordAt, hist}

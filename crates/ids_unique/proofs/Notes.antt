@@ -1,23 +1,23 @@
 -- Laws of taking a record: its words in the columns of the blocks, and its place in the chain of the firsts.
 use mathlib.Core.Path.{_≡_, refl, sym, ap, _∙_}
 use mathlib.Core.Bool.{Bool, true, false, cond, _&&_}
-use mathlib.Core.List.{List, [], _∷_}
+use mathlib.Core.List.{List, _∷_}
 use mathlib.Core.Option.{Option, none, some}
-use Prim.Native.Nat.{ℕ, zero, suc, _+_, _*_, _≤_, _<_, max}
+use Prim.Native.Nat.{ℕ, zero, suc, _+_, _*_, _<_, max}
 use native.Mathlib.Omega.{arith}
-use lib.ListN.{length, getD}
+use lib.ListN.{length}
 use lib.Dec.{eqb}
 use borrow.Author.Tests.{eq-eqb, ne-eqb, eqb-true}
 use Rattle.record.specs.Records.{TraceRecord}
 use Rattle.rules.specs.History.{History, isKind, isSome, anyOf}
 use Rattle.rules.specs.IdsUnique.{Grant, grantBy, nonempty, sameIndex, firstGrants, blocksOf}
 use Rattle.history.specs.Logs.{hist}
-use Rattle.history.specs.Columns.{Put, Entered, Chained}
+use Rattle.history.specs.Columns.{Put, Entered}
 use Rattle.history.proofs.Logs.{hist-length}
-use Rattle.history.proofs.Cells.{Same, put-apart, column-agrees, column-put}
+use Rattle.history.proofs.Cells.{put-apart, column-agrees, column-put}
 use Rattle.history.proofs.Chains.{latest-here, latest-else, chained-agrees, entered, not-entered}
 use Rattle.history.specs.Buckets.{bucketBy}
-use Rattle.ids_unique.specs.Firsts.{firstGrant, firstWrite, firstBucket, FirstsIndexed, firstGrantAt}
+use Rattle.ids_unique.specs.Firsts.{firstGrant, FirstsIndexed, firstGrantAt}
 use Rattle.ids_unique.specs.Blocks.{tellsBlock, blockBucket, latestBlock, blockLink, greatestOfLasts, lastAfter, IdsIndexed}
 use Rattle.ids_unique.specs.Noted.{Marked, IdsNoted}
 use Rattle.ids_unique.proofs.Firsts.{never, grant-is, no-grant, no-write, grant-known, grant-new, grant-in, first-none, grantNumbered, any-grant}
@@ -105,10 +105,21 @@ marked {cap} {count} l b t e d p q = record {
 
 -- a record with a first grant, and one without
 module _ (log : List ℕ) (x : TraceRecord) {cap count last : ℕ} {first full : Bool} {work mid : List ℕ} (l : count < cap) (a : last ≡ x .e)
-    (u : full ≡ nonempty (grantBy x)) (f : FirstsIndexed cap (hist log count) work → first ≡ isSome (firstGrant x (hist log count)))
-    (m : Marked cap count (first && full) last work mid) where
-  ids-on : FirstsIndexed cap (hist log count) work → IdsIndexed cap (hist log count) work → IdsIndexed cap (x ∷ hist log count) mid
-  ids-on k i = m .ids log x (block-by x (hist log count) (f k) u) a i
+    (u : full ≡ nonempty (grantBy x)) (g : first ≡ true → x .kind ≡ 11)
+    (f : FirstsIndexed cap (hist log count) work → first ≡ isSome (firstGrant x (hist log count))) (m : Marked cap count (first && full) last work mid) where
+  first-is : (isKind 11 x ≡ true → FirstsIndexed cap (hist log count) work) → first ≡ isSome (firstGrant x (hist log count))
+  first-is k = go (isKind 11 x) refl
+    where
+      not-first : (t : Bool) → first ≡ t → isKind 11 x ≡ false → t ≡ false
+      not-first true e d = let z : true ≡ false = sym (eq-eqb (x .kind) 11 (g e)) ∙ d in cc
+      not-first false e d = refl
+
+      go : (t : Bool) → isKind 11 x ≡ t → first ≡ isSome (firstGrant x (hist log count))
+      go true e = f (k e)
+      go false e = not-first first refl e ∙ sym (ap isSome (no-grant x (hist log count) e))
+
+  ids-on : (isKind 11 x ≡ true → FirstsIndexed cap (hist log count) work) → IdsIndexed cap (hist log count) work → IdsIndexed cap (x ∷ hist log count) mid
+  ids-on k i = m .ids log x (block-by x (hist log count) (first-is k) u) a i
 
   firsts-on : FirstsIndexed cap (hist log count) work → FirstsIndexed cap (hist log count) mid
   firsts-on k =
@@ -126,9 +137,9 @@ module _ (log : List ℕ) (x : TraceRecord) {cap count last : ℕ} {first full :
     firsts-kept = λ z j y. m .others j (λ w. omega arith) (λ w. omega arith);
   }
 
-  pub noted-first : {b : ℕ} {work′ : List ℕ} → first ≡ true → (first ≡ true → x .kind ≡ 11) → b ≡ bucketBy cap (x .b) → b < cap
+  pub noted-first : {b : ℕ} {work′ : List ℕ} → first ≡ true → b ≡ bucketBy cap (x .b) → b < cap
       → Entered mid work′ (9 * cap) (10 * cap) count b → IdsNoted cap (hist log count) x work work′
-  noted-first {b} {work′} n g e d w = record {
+  noted-first {b} {work′} n e d w = record {
     len = w .len ∙ m .len;
     below = λ j z. w .others j (λ y. omega arith) (λ y. omega arith) ∙ m .others j (λ y. omega arith) (λ y. omega arith);
     between = λ j y z. w .others j (λ v. omega arith) (λ v. omega arith) ∙ m .others j (λ v. omega arith) (λ v. omega arith);

@@ -4,23 +4,18 @@ use mathlib.Core.Path.{_≡_, refl, sym, ap, _∙_}
 use mathlib.Core.Bool.{Bool, true, false, cond, _&&_, _||_}
 use mathlib.Core.List.{List, [], _∷_}
 use mathlib.Core.Option.{Option, none, some}
-use Prim.Native.Nat.{ℕ, _+_, _*_, _-_, _≤_, _<_, max}
+use Prim.Native.Nat.{ℕ, _-_, _<_, max}
 use native.Mathlib.Omega.{arith}
-use native.Mathlib.Decide.{decLt}
-use lib.ListN.{length, getD}
-use lib.Dec.{eqb, ltb, leb}
-use borrow.Author.Tests.{ltb-true, ltb-false, lt-ltb, le-ltb, leb-true, leb-false, le-leb, lt-leb}
-use Rattle.rules.specs.declared.Case.{Case}
-use Rattle.rules.specs.declared.Case.the-variants.{Clear}
-use Rattle.rules.specs.History.{History, anyOf, greater, greatestOf}
+use lib.Dec.{ltb, leb}
+use borrow.Author.Tests.{ltb-true, ltb-false, lt-leb}
+use Rattle.rules.specs.History.{anyOf, greater, greatestOf}
 use Rattle.rules.specs.Cases.{fault, faultIf, caseOf}
-use Rattle.rules.specs.IdsUnique.{Grant, grantBy, nonempty, shares, blocksOf, sharedFault, firstFault}
-use Rattle.history.specs.Logs.{bytesAt, recordAt, hist}
+use Rattle.rules.specs.IdsUnique.{Grant, grantBy, shares, blocksOf, sharedFault}
+use Rattle.history.specs.Logs.{recordAt, hist}
 use Rattle.history.proofs.Chains.{In}
 use Rattle.ids_unique.specs.declared.block.Shared.{Shared}
 use Rattle.ids_unique.specs.Blocks.{blockBucket, greatestOfLasts}
 use Rattle.ids_unique.specs.Sharing.{weigh, weighAll}
-use Rattle.ids_unique.proofs.Firsts.{never}
 use Rattle.ids_unique.proofs.Blocks.{blocks-turn, blocks-end}
 
 weigh-more : (first last : ℕ) (s : Shared) (o : Grant) (os : List Grant) → weighAll first last s (o ∷ os) ≡ weighAll first last (weigh first last s (o .first) (o .last)) os

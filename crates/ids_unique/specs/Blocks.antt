@@ -1,6 +1,6 @@
 -- The columns of `IdsUnique`: the latest block and the greatest last, each as of every record.
 use mathlib.Core.List.{List, [], _∷_}
-use mathlib.Core.Option.{Option, none, some}
+use mathlib.Core.Option.{some}
 use Prim.Native.Nat.{ℕ, _*_, max}
 use Rattle.record.specs.Records.{TraceRecord}
 use Rattle.rules.specs.History.{History, Tells, when, given}

@@ -2,7 +2,7 @@
 -- those with a write that counts, by its range and index.
 use mathlib.Core.Bool.{cond}
 use mathlib.Core.List.{List}
-use mathlib.Core.Option.{Option, none, some}
+use mathlib.Core.Option.{none, some}
 use Prim.Native.Nat.{ℕ, _*_}
 use Rattle.rules.specs.History.{History, Tells, orElse, given, anyOf}
 use Rattle.rules.specs.IdsUnique.{Grant, tellsGrant, sameIndex, firstGrants}

@@ -23,6 +23,6 @@ pub record IdsNoted (cap : ℕ) (h : History) (x : TraceRecord) (work work′ : 
   pub below : (j : ℕ) → j < 9 * cap → getD work′ j 0 ≡ getD work j 0
   pub between : (j : ℕ) → 11 * cap ≤ j → j < 14 * cap → getD work′ j 0 ≡ getD work j 0
   pub above : (j : ℕ) → 16 * cap ≤ j → getD work′ j 0 ≡ getD work j 0
-  pub ids : FirstsIndexed cap h work → IdsIndexed cap h work → IdsIndexed cap (x ∷ h) work′
+  pub ids : (isKind 11 x ≡ true → FirstsIndexed cap h work) → IdsIndexed cap h work → IdsIndexed cap (x ∷ h) work′
   pub firsts : isKind 3 x ≡ false → FirstsIndexed cap h work → FirstsIndexed cap (x ∷ h) work′
   pub firsts-kept : isKind 3 x ≡ true → (j : ℕ) → j < 14 * cap → getD work′ j 0 ≡ getD work j 0

@@ -1,5 +1,5 @@
 -- No earlier write of the key; or the last one, which decides while there was no fault.
-use mathlib.Core.Path.{_≡_, refl, sym, ap, _∙_}
+use mathlib.Core.Path.{refl, sym, ap, _∙_}
 use native.Mathlib.Omega.{arith}
 use Rattle.record.specs.Keys.{Key}
 use Rattle.record.specs.Records.{TraceRecord, decode}

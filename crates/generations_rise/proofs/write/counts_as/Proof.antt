@@ -1,6 +1,5 @@
 -- No write, one at a place that counted before, or one at the generation of what was found.
-use mathlib.Core.Path.{_≡_, refl, sym, ap, _∙_}
-use mathlib.Core.Bool.{Bool, true, false}
+use mathlib.Core.Path.{refl, sym, _∙_}
 use borrow.Author.Tests.{not-true, not-false}
 use Rattle.record.specs.Records.{decode}
 use Rattle.generations_rise.proofs.Rising.{clash}

@@ -1,9 +1,9 @@
 -- A walk along the chain: the records passed over have no write at the range and index that counted.
-use mathlib.Core.Path.{_≡_, refl, sym, ap, _∙_}
-use Prim.Native.Nat.{ℕ, _+_, _-_, _*_, _≤_, _<_}
+use mathlib.Core.Path.{refl, sym, _∙_}
+use Prim.Native.Nat.{_-_, _≤_}
 use native.Mathlib.Omega.{arith}
 use Rattle.history.specs.Buckets.{bucketByTwo}
-use Rattle.history.specs.Logs.{recordAt, hist}
+use Rattle.history.specs.Logs.{hist}
 use Rattle.history.proofs.Logs.{record-length}
 use Rattle.history.proofs.Chains.{Stands, stands-first, stands-next}
 use Rattle.ids_unique.specs.Firsts.{FirstsIndexed, firstBucket}

@@ -1,5 +1,4 @@
 -- The test is that of the definition.
-use borrow.Author.Needs.{needs}
 use Rattle.ids_unique.proofs.block.risen.Statement.{statement}
 use Rattle.ids_unique.proofs.block.risen.Tie as tie
 

@@ -1,11 +1,11 @@
 -- A walk from block to block: what is weighed so far, with what is still to weigh, is what all weigh.
-use mathlib.Core.Path.{_≡_, refl, sym, ap, _∙_}
+use mathlib.Core.Path.{refl, sym}
 use mathlib.Core.Bool.{false}
-use Prim.Native.Nat.{ℕ, _+_, _-_, _*_, _≤_, _<_}
+use Prim.Native.Nat.{_-_, _≤_}
 use native.Mathlib.Omega.{arith}
 use Rattle.record.specs.Records.{TraceRecord}
 use Rattle.rules.specs.IdsUnique.{blocksOf}
-use Rattle.history.specs.Logs.{recordAt, hist}
+use Rattle.history.specs.Logs.{hist}
 use Rattle.history.proofs.Logs.{record-length}
 use Rattle.history.proofs.Chains.{Stands}
 use Rattle.ids_unique.specs.Blocks.{IdsIndexed, blockBucket}

@@ -1,10 +1,9 @@
 -- A walk along the chain: the records passed over have no first grant at the index.
-use mathlib.Core.Path.{_≡_, refl, sym, ap, _∙_}
-use Prim.Native.Nat.{ℕ, _+_, _-_, _*_, _≤_, _<_}
+use mathlib.Core.Path.{refl, sym, _∙_}
+use Prim.Native.Nat.{_-_, _≤_}
 use native.Mathlib.Omega.{arith}
-use lib.ListN.{length, getD}
 use Rattle.history.specs.Buckets.{bucketBy}
-use Rattle.history.specs.Logs.{recordAt, hist}
+use Rattle.history.specs.Logs.{hist}
 use Rattle.history.proofs.Logs.{record-length}
 use Rattle.history.proofs.Chains.{Stands, stands-first, stands-next}
 use Rattle.ids_unique.specs.Firsts.{FirstsIndexed, firstBucket, firstGrantAt}

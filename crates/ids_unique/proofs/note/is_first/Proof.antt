@@ -1,9 +1,5 @@
 -- The kind, and then whether a record was found.
 use mathlib.Core.Path.{sym, _∙_}
-use mathlib.Core.Bool.{Bool, true, false}
-use mathlib.Core.Path.{_≡_}
-use Prim.Native.Nat.{ℕ}
-use native.Mathlib.Omega.{arith}
 use Rattle.ids_unique.proofs.Notes.{false-true, first-not, first-yes, first-no}
 use borrow.Author.Needs.{needs}
 use Rattle.ids_unique.proofs.note.is_first.Statement.{statement}

@@ -1,6 +1,4 @@
 -- The words of the record, and its place in the chain where it has a first grant.
-use mathlib.Core.Path.{ap, _∙_}
-use native.Mathlib.Omega.{arith}
 use Rattle.ids_unique.proofs.Notes.{noted-first, noted-other}
 use borrow.Author.Needs.{needs}
 use Rattle.ids_unique.proofs.note.note.Statement.{statement}
@@ -43,8 +41,8 @@ returns c =
     let i = m .before .before .before .before in
     let p = i .before .before .before .before .before in
     let g = c .before .before .before .bucket-by .ensures in
-    noted-first _ _ (p .pre .1 .0) (m .before .e .ensures) (m .before .before .is-full .ensures) (i .is-first .ensures .1) (m .mark .ensures)
-    (f .if1 .taken) (i .is-first .ensures .0) (rw (← c .before .before .before .before .b .ensures) (g .0)) (g .1) (c .before .before .enter .ensures)
+    noted-first _ _ (p .pre .1 .0) (m .before .e .ensures) (m .before .before .is-full .ensures) (i .is-first .ensures .0) (i .is-first .ensures .1) (m .mark .ensures)
+    (f .if1 .taken) (rw (← c .before .before .before .before .b .ensures) (g .0)) (g .1) (c .before .before .enter .ensures)
 
 same-length-2 : tie.Need-same-length-2
 same-length-2 c = search needs
@@ -54,7 +52,7 @@ returns-2 c =
     let m = c .before .before .before in
     let i = m .before .before .before .before in
     let p = i .before .before .before .before .before in
-    noted-other _ _ (p .pre .1 .0) (m .before .e .ensures) (m .before .before .is-full .ensures) (i .is-first .ensures .1) (m .mark .ensures) (c .if1 .left)
+    noted-other _ _ (p .pre .1 .0) (m .before .e .ensures) (m .before .before .is-full .ensures) (i .is-first .ensures .0) (i .is-first .ensures .1) (m .mark .ensures) (c .if1 .left)
 
 pub note-spec : {M : Type 1} → statement M
 note-spec =
