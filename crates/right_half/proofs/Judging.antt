@@ -7,7 +7,6 @@ use mathlib.Core.Option.{Option, none, some}
 use Prim.Native.Nat.{ℕ, _≤_, _<_}
 use native.Mathlib.Omega.{arith}
 use lib.Dec.{eqb, leb}
-use borrow.Author.Tests.{eqb-true, eq-eqb}
 use Rattle.record.specs.declared.named.ApplyEffect.the-variants.{Took}
 use Rattle.record.specs.Records.{Span, TraceRecord}
 use Rattle.rules.specs.declared.Case.{Case}
@@ -18,14 +17,14 @@ use Rattle.rules.specs.OneOwnerPerKey.{isHolding, heldSpan, isHeld}
 use Rattle.rules.specs.RightHalf.{Registered, isRestated, isSplit, registered, registers, isVoter, ownDebt, registeringDebt, cancels, debtAt, owes, isMissing, missingFault}
 use Rattle.rules.proofs.Booleans.{never, and-left, and-right, both, or-cases}
 use Rattle.rules.proofs.Members.{Mem}
-use Rattle.rules.proofs.Placed.{Placed, Answer, Latest, latestOf-right, placed-mem}
 use Rattle.rules.proofs.Debts.{owes-arises, owes-kept}
-use Rattle.rules.proofs.Once.{registered-step, splits-one}
+use Rattle.rules.proofs.Once.{registered-step}
 use Rattle.one_owner_per_key.proofs.Marks.{kind-apart, and-none}
 use Rattle.one_owner_per_key.proofs.Holds.{span-step}
 use Rattle.right_half.specs.Walk.{applying, comes}
 use Rattle.right_half.proofs.Arising.{Arisen, own, early, itself, arisen}
 use Rattle.right_half.proofs.Lacks.{registers-kind}
+use Rattle.right_half.proofs.Applied.{only-split}
 
 none-of : {A : Type 0} (o : Option A) → isSome o ≡ false → o ≡ none
 none-of none e = refl
@@ -132,29 +131,9 @@ module _ (node : ℕ) (x : TraceRecord) (h : History) (b : isBy node x ≡ true)
     took-debt =
         rw (b, took-kind 7 (λ q. omega arith), took, registers-none x h (took-kind 1 (λ q. omega arith)) (took-kind 2 (λ q. omega arith))) (or-none (latestOf test (registered h)))
 
-    same : (u : Registered) → Mem u (registered h) → isSplit (x .a) (x .b) u ≡ true → u ≡ s
-    same u m e =
-        splits-one h u s m mem
-        (eqb-true (u .parent) (x .a) (and-left (eqb (u .parent) (x .a)) _ e) ∙ sym (eqb-true (s .parent) (x .a) (and-left (eqb (s .parent) (x .a)) _ at)))
-        (eqb-true (u .index) (x .b) (and-right (eqb (u .parent) (x .a)) _ e) ∙ sym (eqb-true (s .index) (x .b) (and-right (eqb (s .parent) (x .a)) _ at)))
-
-    and-three : (p q r : Bool) → p ≡ true → p && q && r ≡ q && r
-    and-three p q r e = rw e
-
-    test-is : test s ≡ its s
-    test-is = and-three (isSplit (x .a) (x .b) s) (eqb (s .right) right) (isVoter node h s) at
-
-    one : (o : Option Registered) (t : Bool) → its s ≡ t → Answer (Latest test (registered h)) test (registered h) o → o ≡ cond t (some s) none
-    one none true e a = never (test-is ∙ e) (a s mem)
-    one none false e a = refl
-    one (some u) t e a =
-        let p = a .place .passes in
-        let q : u ≡ s = same u (placed-mem (a .place)) (and-left (isSplit (x .a) (x .b) u) _ (and-left (isSplit (x .a) (x .b) u && eqb (u .right) right) _ p)) in
-        let w : t ≡ true = sym e ∙ sym test-is ∙ ap test (sym q) ∙ p in
-        rw (w, q)
-
     took-cases : (t : Bool) → its s ≡ t → owes node right (x ∷ h) ≡ cond t (some s) (owes node right h)
-    took-cases t e = go t (took-debt ∙ one (latestOf test (registered h)) t e (latestOf-right test (registered h)))
+    took-cases t e =
+        go t (took-debt ∙ only-split h (x .a) (x .b) s mem at (λ u. eqb (u .right) right) (isVoter node h) ∙ ap (λ (v : Bool). cond v (some s) none) e)
       where
         kept : cancels node right x ≡ false
         kept = rw (took-kind 9 (λ q. omega arith), took-kind 10 (λ q. omega arith)) (and-none (isBy node x))

@@ -13,5 +13,9 @@ pub mod Searches
 pub mod Lacks
 pub mod Lowering
 pub mod Registering
+pub mod Applied
 pub mod Judging
+pub mod Debts
+pub mod Checks
+pub mod Openings
 pub mod Tests

@@ -216,7 +216,7 @@ module _ (log : List ℕ) (t node : ℕ) (y : TraceRecord) (m : ℕ) where
     early-is : hasApplied node (parentBy y) (y .b) (hist log t) || reaches node it (hist log t) ≡ traced log t node (parentBy y) (y .b) || reached log t node (parentBy y) (y .b)
     early-is = rw (traced-is node (parentBy y) (y .b) log t (registers-new y (hist log t) it r), reached-is log t node it)
 
-    first-debt : owesFirst log t node y ≡ true → isSome (debtAt node (it .right) y (hist log t)) ≡ true
+    pub first-debt : owesFirst log t node y ≡ true → isSome (debtAt node (it .right) y (hist log t)) ≡ true
     unfolding owesFirst appliedFirst
     first-debt o =
         let a = and-left (appliedFirst log t node y) _ o in
@@ -230,7 +230,7 @@ module _ (log : List ℕ) (t node : ℕ) (y : TraceRecord) (m : ℕ) where
         (own-parent (and-right (isBy node y) _ w)) (and-right (isBy node y && isKind 2 y && not (isRestated node (hist log t))) _ p))
         (or-cases (reached log t node (parentBy y) (y .b) || traced log t node (parentBy y) (y .b)) (reachesItself node y (isRestated node (hist log t))) a)
 
-    first-early : isVoter node (hist log t) it ≡ true → hasApplied node (parentBy y) (y .b) (hist log t) || reaches node it (hist log t) ≡ true → owesFirst log t node y ≡ true
+    pub first-early : isVoter node (hist log t) it ≡ true → hasApplied node (parentBy y) (y .b) (hist log t) || reaches node it (hist log t) ≡ true → owesFirst log t node y ≡ true
     unfolding owesFirst appliedFirst
     first-early v e =
         both (or-left (reached log t node (parentBy y) (y .b) || traced log t node (parentBy y) (y .b)) _

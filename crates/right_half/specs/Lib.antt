@@ -3,3 +3,4 @@ pub mod Numbers
 pub mod Index
 pub mod Splits
 pub mod Walk
+pub mod Debts

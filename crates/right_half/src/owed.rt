@@ -254,7 +254,7 @@ fn is_applied_first(
 }
 
 // Whether a node comes to owe where the record at place t registers a split.
-fn owes_first(
+pub fn owes_first(
     log: &[u8],
     work: &[u64],
     count: usize,

@@ -1,0 +1,25 @@
+-- What it registers, by its node's latest record.
+use borrow.Author.Needs.{needs}
+use Rattle.right_half.proofs.check.registered.Statement.{statement}
+use Rattle.right_half.proofs.check.registered.Tie as tie
+
+latest-of-requires : tie.Need-latest-of-requires
+latest-of-requires c κs = search needs
+
+registers-requires : tie.Need-registers-requires
+registers-requires c κs = search needs
+
+registering-requires : tie.Need-registering-requires
+registering-requires c κs = search needs
+
+returns : tie.Need-returns
+returns c = let a = c .before .before .before .before .before .before .args in λ ix m. c .registering .ensures ix (c .before .registers .ensures .1 ix (a .node) m (c .before .before .latest-of .ensures .1 (ix .0)))
+
+pub registered-spec : {M : Type 1} → statement M
+registered-spec =
+    tie.close
+    (tie.spec
+    latest-of-requires
+    registers-requires
+    registering-requires
+    returns)
