@@ -1,0 +1,12 @@
+-- What is proved of the judge besides its functions: the refusals, a report's step, what a push leaves, and the third demand.
+pub mod Refusals
+pub mod Steps
+pub mod Notes
+pub mod Pushes
+pub mod Lookups
+pub mod Lists
+pub mod Openings
+pub mod Traces
+pub mod Demand3
+pub mod WorkArea
+pub mod WorkAfter

@@ -1,0 +1,31 @@
+-- "Work words are a written function, freely chosen, of the opening numbers, C and the records taken": the function is `workOf`.
+-- Assumes nothing.
+use mathlib.Core.Path.{_≡_, ap, _∙_}
+use mathlib.Core.Bool.{true}
+use mathlib.Core.List.{List, []}
+use Prim.Native.Nat.{ℕ, _*_}
+use lib.ListN.{length}
+use Rattle.rules.specs.History.{History}
+use Rattle.judge.specs.States.{State, suits}
+use Rattle.judge.specs.Words.{Indexed}
+use Rattle.judge.specs.WorkArea.{workOf}
+use Rattle.judge.specs.Runs.{After, Run, takenOf}
+use Rattle.judge.proofs.Lookups.{words}
+use Rattle.judge.proofs.WorkArea.{words-are}
+use Rattle.judge.proofs.Demand3.{ran}
+
+length-work-of : (s : State) → suits s ≡ true → length (s .work) ≡ 32 * s .judge .capacity
+unfolding suits
+length-work-of s e = words (s .judge) (s .log) (s .work) e
+
+-- in a state after the records of h every word is what the function says
+pub after-words : (h : History) (s : State) → After Indexed h s → s .work ≡ workOf (s .judge .capacity) h
+after-words h s a = words-are (s .judge .capacity) h (s .work) (length-work-of s (a .fits)) (a .words)
+
+-- and so after every list of pushes, from a state after no records
+pub run-words : (o t : State) (ps : List (List ℕ)) → After Indexed [] o → Run Indexed o ps t
+    → t .work ≡ workOf (o .judge .capacity) (takenOf (o .judge .capacity) ps [])
+run-words o t ps a r =
+    let w = ran Indexed [] a r in
+    let h = takenOf (o .judge .capacity) ps [] in
+    after-words h t (w .after) ∙ ap (λ (c : ℕ). workOf c h) (w .capacity)

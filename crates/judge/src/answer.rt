@@ -1,0 +1,57 @@
+// The reports, one at a time.
+use crate::report::pass;
+use crate::state::Judge;
+use crate::state::Refusal;
+use rules::Report;
+ghost use mathlib.Core.Path.{_≡_};
+ghost use Rattle.judge.specs.Answers.{fitsBy, reportNo, ReportedBy};
+
+// What a call for a report gives: its refusal, the judge as it was given, and the report.
+pub struct Reported {
+    pub refusal: Refusal,
+    pub judge: Judge,
+    pub report: Report,
+}
+
+// Whether a judge's numbers are those of a judge.
+fn is_fit(capacity: usize, count: usize) -> bool
+    ensures { λ r. ⌜ r ≡ fitsBy capacity count ⌝ }
+{
+    (capacity <= Judge::CAPACITY) & (count <= capacity)
+}
+
+// The report with a number from 1 to 8; any other number has a pass.
+fn report_no(reports: [Report; 8], k: usize) -> Report
+    ensures { λ r. ⌜ r ≡ reportNo reports k ⌝ }
+{
+    if k == 0 {
+        return pass();
+    }
+    if 8 < k {
+        return pass();
+    }
+    let at = k - 1;
+    reports[at]
+}
+
+impl Judge {
+    // One of the eight reports, by its number in printing order.
+    pub fn report(self, k: usize) -> Reported
+        ensures { λ r. ⌜ ReportedBy self k r ⌝ }
+    {
+        if !is_fit(self.capacity, self.count) {
+            return Reported {
+                refusal: Refusal::Judge,
+                judge: self,
+                report: pass(),
+            };
+        }
+        let reports = self.reports;
+        let report = report_no(reports, k);
+        Reported {
+            refusal: Refusal::Nothing,
+            judge: self,
+            report: report,
+        }
+    }
+}
