@@ -4,6 +4,7 @@
 pub mod cli;
 pub mod cluster;
 pub mod compare;
+pub mod counts;
 pub mod damage;
 pub mod decode;
 pub mod driver;

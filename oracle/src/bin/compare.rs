@@ -16,6 +16,7 @@ use std::process::exit;
 use std::time::Instant;
 
 use oracle::compare::{Asking, Comparer, numbered};
+use oracle::counts::{Counts, header};
 use oracle::damage::every_case;
 use oracle::examples::examples;
 use oracle::exhaustive::alphabets;
@@ -23,57 +24,9 @@ use oracle::generate::{Trace, names, trace};
 use oracle::limits;
 use oracle::misread::{against, smallest};
 use oracle::model::readings::READINGS;
-use oracle::report::{CHECKS, KINDS, Report, Reports, sheet};
+use oracle::report::{Report, Reports, sheet};
 use oracle::text::{readable, record_line};
 use oracle::wire::Record;
-
-/// What a profile's traces came to.
-#[derive(Default)]
-struct Counts {
-    traces: u64,
-    records: u64,
-    passes: u64,
-    faults: [[u64; 5]; 8],
-}
-
-impl Counts {
-    fn add(&mut self, trace: &Trace, reports: &Reports) {
-        self.traces += 1;
-        self.records += trace.records.len() as u64;
-        self.passes += u64::from(reports.iter().all(|report| report.kind == 0));
-        for (faults, report) in self.faults.iter_mut().zip(reports) {
-            faults[usize::from(report.kind)] += 1;
-        }
-    }
-
-    fn join(&mut self, other: &Counts) {
-        self.traces += other.traces;
-        self.records += other.records;
-        self.passes += other.passes;
-        for (all, more) in self.faults.iter_mut().flatten().zip(other.faults.iter().flatten()) {
-            *all += more;
-        }
-    }
-
-    fn row(&self, name: &str) -> String {
-        let mut row = format!("| {name} | {} | {} | {}", self.traces, self.records, self.passes);
-        for (check, kinds) in KINDS.iter().enumerate() {
-            for kind in 1..=usize::from(*kinds) {
-                row += &format!(" | {}", self.faults[check][kind]);
-            }
-        }
-        row + " |"
-    }
-}
-
-fn header() -> String {
-    let mut names = vec!["profile".to_owned(), "traces".to_owned(), "records".to_owned()];
-    names.push("all pass".to_owned());
-    for (check, kinds) in CHECKS.iter().zip(KINDS) {
-        names.extend((1..=kinds).map(|kind| format!("{check} {kind}")));
-    }
-    format!("| {} |\n|{}", names.join(" | "), "---|".repeat(names.len()))
-}
 
 /// Prints the smallest trace that still disagrees, and ends the run.
 fn disagree(comparer: &mut Comparer, trace: &Trace, number: u64, first: &str) -> ! {
