@@ -1,4 +1,4 @@
--- What is proved of the judge besides its functions: the refusals, a report's step, what a push leaves, and the third demand.
+-- What is proved of the judge besides its functions: the refusals, a report's step, what a push leaves, and the second and third demands.
 pub mod Refusals
 pub mod Steps
 pub mod Notes
@@ -8,5 +8,6 @@ pub mod Lists
 pub mod Openings
 pub mod Traces
 pub mod Demand3
+pub mod Demand2
 pub mod WorkArea
 pub mod WorkAfter

@@ -1,4 +1,4 @@
--- The judge's state and calls as definitions, and the third demand's words.
+-- The judge's state and calls as definitions, and the words of the second and third demands.
 pub mod States
 pub mod Openings
 pub mod Words
@@ -9,3 +9,4 @@ pub mod Lookups
 pub mod Lists
 pub mod Runs
 pub mod Traces
+pub mod Demand2
