@@ -27,6 +27,23 @@ pub struct Judge {
     pub reports: [Report; 8],
 }
 
+// Document 01's number of a refusal, 0 where there was none.
+pub fn number_of(refusal: Refusal) -> u64
+    ensures { λ r. ⌜ r ≡ refusalNumber refusal ⌝ }
+{
+    match refusal {
+        Refusal::Nothing => 0,
+        Refusal::Length => 1,
+        Refusal::Kind => 2,
+        Refusal::Value => 3,
+        Refusal::Unused => 4,
+        Refusal::Judge => 5,
+        Refusal::Full => 6,
+        Refusal::Opening => 7,
+        Refusal::Output => 8,
+    }
+}
+
 // The refusal that a form draws.
 fn of_form(form: Form) -> Refusal
     ensures { λ r. ⌜ refusalNumber r ≡ formNumber form ⌝ }

@@ -1,0 +1,6 @@
+pub mod Appends
+pub mod Decimals
+pub mod Examples
+pub mod Lines
+pub mod Numbers
+pub mod Printed

@@ -1,0 +1,83 @@
+-- The printed sheet of a trace, as bytes: document 01's section "Printed sheet".
+use Prim.Native.Nat.{ℕ, zero, suc, _+_, _/_, _%_}
+use Prim.Native.Char.{code}
+use Prim.Native.String.{String, [] as empty, _∷_ as _followed_}
+use mathlib.Core.Bool.{cond}
+use mathlib.Core.List.{List, [], _∷_, _++_}
+use lib.ListN.{length, getD, drop}
+use lib.Dec.{ltb, leb, eqb}
+use Rattle.rules.specs.declared.Evidence.{Evidence}
+use Rattle.rules.specs.declared.Report.{Report}
+use Rattle.rules.specs.declared.Verdict.{Verdict}
+use Rattle.rules.specs.declared.Verdict.the-variants.{Pass, Faulted}
+use Rattle.rules.specs.Reports.{passed}
+
+-- the bytes of a text, one for each of its characters, which are ASCII
+abbrev pub text : String → List ℕ
+text empty = []
+text (c followed s) = code c ∷ text s
+
+-- a number in decimal, without leading zeros: below ten its digit alone; else its tenth part in decimal, and then its last
+-- digit. A tenth part is smaller than its number, so that n steps are enough for n
+unfoldable pub decimalIn : ℕ → ℕ → List ℕ
+decimalIn zero n = (48 + n) ∷ []
+decimalIn (suc steps) n = cond (ltb n 10) ((48 + n) ∷ []) (decimalIn steps (n / 10) ++ ((48 + n % 10) ∷ []))
+
+unfoldable pub decimal : ℕ → List ℕ
+decimal n = decimalIn n n
+
+-- a number after a space
+unfoldable pub spaced : ℕ → List ℕ
+spaced n = text " " ++ decimal n
+
+-- "the five evidence numbers"
+unfoldable pub evidenceText : Evidence → List ℕ
+evidenceText e = spaced (e .e0) ++ spaced (e .e1) ++ spaced (e .e2) ++ spaced (e .e3) ++ spaced (e .e4)
+
+-- "Line: check, then `pass`, or `fault` kind `at` record, a colon and the five evidence numbers"
+unfoldable pub passLine : List ℕ → List ℕ
+passLine name = name ++ text " pass\n"
+
+unfoldable pub faultLine : List ℕ → ℕ → ℕ → Evidence → List ℕ
+faultLine name kind at e = name ++ text " fault" ++ spaced kind ++ text " at" ++ spaced at ++ text ":" ++ evidenceText e ++ text "\n"
+
+abbrev pub lineOf : List ℕ → Verdict → ℕ → Evidence → List ℕ
+lineOf name Pass at e = passLine name
+lineOf name (Faulted kind) at e = faultLine name kind at e
+
+abbrev pub line : List ℕ → Report → List ℕ
+line name r = lineOf name (r .verdict) (r .at) (r .evidence)
+
+-- the lines of the eight checks, in printing order
+unfoldable pub lines : List Report → List ℕ
+lines reports =
+    line (text "agreement") (getD reports 0 passed)
+    ++ line (text "overlap") (getD reports 1 passed)
+    ++ line (text "install") (getD reports 2 passed)
+    ++ line (text "twice") (getD reports 3 passed)
+    ++ line (text "half") (getD reports 4 passed)
+    ++ line (text "generations") (getD reports 5 passed)
+    ++ line (text "ids") (getD reports 6 passed)
+    ++ line (text "meta") (getD reports 7 passed)
+
+-- "The last line is `records` and those taken; after a refusal it goes on with `refused` number `at` record"
+unfoldable pub refusedText : ℕ → ℕ → List ℕ
+refusedText refusal at = cond (eqb refusal 0) [] (text " refused" ++ spaced refusal ++ text " at" ++ spaced at)
+
+unfoldable pub lastLine : ℕ → ℕ → ℕ → List ℕ
+lastLine records refusal at = text "records" ++ spaced records ++ refusedText refusal at ++ text "\n"
+
+-- the whole sheet
+unfoldable pub sheetText : List Report → ℕ → ℕ → ℕ → List ℕ
+sheetText reports records refusal at = lines reports ++ lastLine records refusal at
+
+-- the bytes that hold every sheet
+abbrev pub sheetSize : ℕ
+sheetSize = 2048
+
+-- what a list of bytes is after a text was written to its front: one too short for every sheet stays as it was
+abbrev pub printed : List ℕ → List ℕ → List ℕ
+printed bytes out = cond (leb sheetSize (length out)) (bytes ++ drop (length bytes) out) out
+
+abbrev pub printedLength : List ℕ → List ℕ → ℕ
+printedLength bytes out = cond (leb sheetSize (length out)) (length bytes) 0

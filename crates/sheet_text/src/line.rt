@@ -1,0 +1,110 @@
+// The lines of the sheet, each written into a buffer from a place on. The room that each asks for is that of numbers of 20
+// digits.
+use crate::append::append_spaced;
+use crate::append::append_text;
+use rules::Evidence;
+use rules::Report;
+use rules::Verdict;
+ghost use Prim.Native.Nat.{_+_, _≤_};
+ghost use lib.ListN.{length};
+ghost use Rattle.sheet_text.specs.Sheets.{evidenceText, passLine, faultLine, line, lines, refusedText, lastLine};
+ghost use Rattle.sheet_text.specs.Appends.{Appended};
+
+fn append_evidence(out: &mut [u8], at: usize, e: Evidence) -> usize
+    requires { ⌜ at + 105 ≤ length (now out) ⌝ }
+    ensures { λ r. ⌜ Appended 105 (now (out .entry)) (now (out .exit)) at (evidenceText e) r ⌝ }
+{
+    let a = append_spaced(out, at, e.e0);
+    let b = append_spaced(out, a, e.e1);
+    let c = append_spaced(out, b, e.e2);
+    let d = append_spaced(out, c, e.e3);
+    append_spaced(out, d, e.e4)
+}
+
+fn append_pass(out: &mut [u8], at: usize, name: &[u8]) -> usize
+    requires { ⌜ at + (length (now name) + 6) ≤ length (now out) ⌝ }
+    ensures { λ r. ⌜ Appended (length (now (name .entry)) + 6) (now (out .entry)) (now (out .exit)) at (passLine (now (name .entry))) r ⌝ }
+{
+    let end = append_text(out, at, name);
+    append_text(out, end, b" pass\n")
+}
+
+fn append_fault(
+    out: &mut [u8],
+    at: usize,
+    name: &[u8],
+    kind: u64,
+    position: u64,
+    e: Evidence,
+) -> usize
+    requires { ⌜ at + (length (now name) + 158) ≤ length (now out) ⌝ }
+    ensures { λ r. ⌜ Appended (length (now (name .entry)) + 158) (now (out .entry)) (now (out .exit)) at (faultLine (now (name .entry)) kind position e) r ⌝ }
+{
+    let a = append_text(out, at, name);
+    let b = append_text(out, a, b" fault");
+    let c = append_spaced(out, b, kind);
+    let d = append_text(out, c, b" at");
+    let f = append_spaced(out, d, position);
+    let g = append_text(out, f, b":");
+    let h = append_evidence(out, g, e);
+    append_text(out, h, b"\n")
+}
+
+// A check's line: its name, and what it reports.
+fn append_report(out: &mut [u8], at: usize, name: &[u8], report: Report) -> usize
+    requires { ⌜ at + (length (now name) + 158) ≤ length (now out) ⌝ }
+    ensures { λ r. ⌜ Appended (length (now (name .entry)) + 158) (now (out .entry)) (now (out .exit)) at (line (now (name .entry)) report) r ⌝ }
+{
+    let verdict = report.verdict;
+    let e = report.evidence;
+    match verdict {
+        Verdict::Pass => append_pass(out, at, name),
+        Verdict::Faulted(kind) => append_fault(out, at, name, kind as u64, report.at, e),
+    }
+}
+
+// The lines of the eight checks, in printing order, from the front on.
+pub(crate) fn append_lines(out: &mut [u8], reports: [Report; 8]) -> usize
+    requires { ⌜ 1314 ≤ length (now out) ⌝ }
+    ensures { λ r. ⌜ Appended 1314 (now (out .entry)) (now (out .exit)) 0 (lines reports) r ⌝ }
+{
+    let a = append_report(out, 0, b"agreement", reports[0]);
+    let b = append_report(out, a, b"overlap", reports[1]);
+    let c = append_report(out, b, b"install", reports[2]);
+    let d = append_report(out, c, b"twice", reports[3]);
+    let f = append_report(out, d, b"half", reports[4]);
+    let g = append_report(out, f, b"generations", reports[5]);
+    let h = append_report(out, g, b"ids", reports[6]);
+    append_report(out, h, b"meta", reports[7])
+}
+
+// What the last line says of a refusal: nothing where there was none.
+fn append_refused(out: &mut [u8], at: usize, refusal: u64, position: u64) -> usize
+    requires { ⌜ at + 53 ≤ length (now out) ⌝ }
+    ensures { λ r. ⌜ Appended 53 (now (out .entry)) (now (out .exit)) at (refusedText refusal position) r ⌝ }
+{
+    if refusal == 0 {
+        return at;
+    }
+    let a = append_text(out, at, b" refused");
+    let b = append_spaced(out, a, refusal);
+    let c = append_text(out, b, b" at");
+    append_spaced(out, c, position)
+}
+
+// The last line: the records taken, and the refusal.
+pub(crate) fn append_last(
+    out: &mut [u8],
+    at: usize,
+    records: u64,
+    refusal: u64,
+    position: u64,
+) -> usize
+    requires { ⌜ at + 82 ≤ length (now out) ⌝ }
+    ensures { λ r. ⌜ Appended 82 (now (out .entry)) (now (out .exit)) at (lastLine records refusal position) r ⌝ }
+{
+    let a = append_text(out, at, b"records");
+    let b = append_spaced(out, a, records);
+    let c = append_refused(out, b, refusal, position);
+    append_text(out, c, b"\n")
+}

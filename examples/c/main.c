@@ -1,0 +1,81 @@
+/* A C host: two grants of ids that share an id, pushed one at a time and then judged as one trace. */
+#include <inttypes.h>
+#include <stdio.h>
+#include <string.h>
+
+#include "petalchurn.h"
+
+#define CAPACITY 96
+
+static uint8_t log_bytes[PETALCHURN_RECORD_SIZE * CAPACITY];
+static uint64_t work[PETALCHURN_WORK_WORDS * CAPACITY];
+static uint64_t state[PETALCHURN_STATE_WORDS];
+
+static const char *const checks[8] = {"agreement", "overlap", "install", "twice", "half", "generations", "ids", "meta"};
+
+static void put_number(uint8_t *rec, size_t at, uint64_t number) {
+    for (size_t i = 0; i < 8; i++)
+        rec[at + i] = (uint8_t)(number >> (8 * i));
+}
+
+/* Kind 11: a node is granted the ids from first to last, at an index. */
+static void grant(uint8_t *rec, uint64_t node, uint64_t index, uint64_t run, uint64_t first, uint64_t last) {
+    memset(rec, 0, PETALCHURN_RECORD_SIZE);
+    rec[0] = 11;
+    put_number(rec, 8, node);
+    put_number(rec, 16, index);
+    put_number(rec, 24, run);
+    put_number(rec, 32, first);
+    put_number(rec, 40, last);
+}
+
+static void print_report(const char *check, const uint64_t *report) {
+    if (report[0] == 0) {
+        printf("%s pass\n", check);
+        return;
+    }
+    printf("%s fault %" PRIu64 " at %" PRIu64 ":", check, report[0], report[1]);
+    for (size_t i = 2; i < PETALCHURN_REPORT_WORDS; i++)
+        printf(" %" PRIu64, report[i]);
+    printf("\n");
+}
+
+static uint64_t push(const uint8_t *rec, size_t len) {
+    return petalchurn_push(state, PETALCHURN_STATE_WORDS, log_bytes, sizeof log_bytes, work, CAPACITY * PETALCHURN_WORK_WORDS, rec, len);
+}
+
+int main(void) {
+    uint8_t trace[2 * PETALCHURN_RECORD_SIZE];
+    uint8_t *second = trace + PETALCHURN_RECORD_SIZE;
+    uint64_t report[PETALCHURN_REPORT_WORDS], answer[PETALCHURN_TRACE_WORDS], list[8];
+
+    grant(trace, 1, 5, 1, 10, 19);
+    grant(second, 2, 6, 1, 19, 30);
+
+    printf("open %" PRIu64 "\n",
+           petalchurn_open(0, log_bytes, sizeof log_bytes, work, CAPACITY * PETALCHURN_WORK_WORDS, state, PETALCHURN_STATE_WORDS));
+    printf("push %" PRIu64 "\n", push(trace, PETALCHURN_RECORD_SIZE));
+    printf("push %" PRIu64 "\n", push(second, PETALCHURN_RECORD_SIZE));
+    printf("push of 367 bytes %" PRIu64 "\n", push(trace, PETALCHURN_RECORD_SIZE - 1));
+
+    printf("report %" PRIu64 "\n", petalchurn_report(state, PETALCHURN_STATE_WORDS, 7, report, PETALCHURN_REPORT_WORDS));
+    print_report(checks[6], report);
+
+    petalchurn_answer blocks = petalchurn_blocks(state, PETALCHURN_STATE_WORDS, log_bytes, sizeof log_bytes, work,
+                                                 CAPACITY * PETALCHURN_WORK_WORDS, list, 8);
+    printf("blocks %" PRIu64 " %" PRIu64 ":", blocks.refusal, blocks.value);
+    for (size_t i = 0; i < 3 * blocks.value; i++)
+        printf(" %" PRIu64, list[i]);
+    printf("\n");
+    petalchurn_answer holders = petalchurn_holders_of(state, PETALCHURN_STATE_WORDS, log_bytes, sizeof log_bytes, work,
+                                                      CAPACITY * PETALCHURN_WORK_WORDS, 19, list, 1);
+    printf("holders in one word %" PRIu64 " %" PRIu64 "\n", holders.refusal, holders.value);
+
+    printf("trace %" PRIu64 "\n", petalchurn_trace(0, log_bytes, sizeof log_bytes, work, CAPACITY * PETALCHURN_WORK_WORDS, trace,
+                                                   sizeof trace, answer, PETALCHURN_TRACE_WORDS));
+    for (size_t i = 0; i < 8; i++)
+        print_report(checks[i], answer + 2 + PETALCHURN_REPORT_WORDS * i);
+    printf("records %" PRIu64 "\n", answer[0]);
+    printf("refused at %" PRIu64 "\n", answer[1]);
+    return 0;
+}

@@ -1,0 +1,245 @@
+//! A Rust host: two grants of ids that share an id, pushed one at a time and then judged as one trace.
+
+/// What a look-up answers: the refusal's number, and the value, 0 where the call is refused.
+#[repr(C)]
+struct Answer {
+    refusal: u64,
+    value: u64,
+}
+
+/// The functions of `include/petalchurn.h` that this host calls.
+mod library {
+    use super::Answer;
+
+    extern "C" {
+        pub fn petalchurn_open(
+            tenant: u64,
+            log: *const u8,
+            log_len: usize,
+            work: *mut u64,
+            work_len: usize,
+            state: *mut u64,
+            state_len: usize,
+        ) -> u64;
+        pub fn petalchurn_push(
+            state: *mut u64,
+            state_len: usize,
+            log: *mut u8,
+            log_len: usize,
+            work: *mut u64,
+            work_len: usize,
+            rec: *const u8,
+            rec_len: usize,
+        ) -> u64;
+        pub fn petalchurn_report(
+            state: *const u64,
+            state_len: usize,
+            k: u64,
+            out: *mut u64,
+            out_len: usize,
+        ) -> u64;
+        pub fn petalchurn_blocks(
+            state: *const u64,
+            state_len: usize,
+            log: *const u8,
+            log_len: usize,
+            work: *const u64,
+            work_len: usize,
+            out: *mut u64,
+            out_len: usize,
+        ) -> Answer;
+        pub fn petalchurn_holders_of(
+            state: *const u64,
+            state_len: usize,
+            log: *const u8,
+            log_len: usize,
+            work: *const u64,
+            work_len: usize,
+            id: u64,
+            out: *mut u64,
+            out_len: usize,
+        ) -> Answer;
+        pub fn petalchurn_trace(
+            tenant: u64,
+            log: *mut u8,
+            log_len: usize,
+            work: *mut u64,
+            work_len: usize,
+            trace: *const u8,
+            trace_len: usize,
+            out: *mut u64,
+            out_len: usize,
+        ) -> u64;
+    }
+}
+
+const RECORD_SIZE: usize = 368;
+const WORK_WORDS: usize = 32;
+const STATE_WORDS: usize = 59;
+const REPORT_WORDS: usize = 7;
+const TRACE_WORDS: usize = 58;
+
+const CHECKS: [&str; 8] = [
+    "agreement", "overlap", "install", "twice", "half", "generations", "ids", "meta",
+];
+
+/// A judge with the buffers that it is lent. A slice's pointer and length meet what the header asks of a buffer, and `&mut` that
+/// no other buffer overlaps one that is written, so each call below is safe.
+struct Judge {
+    state: [u64; STATE_WORDS],
+    log: Vec<u8>,
+    work: Vec<u64>,
+}
+
+impl Judge {
+    fn open(tenant: u64, capacity: usize) -> Result<Judge, u64> {
+        let mut judge = Judge {
+            state: [0; STATE_WORDS],
+            log: vec![0; RECORD_SIZE * capacity],
+            work: vec![0; WORK_WORDS * capacity],
+        };
+        let refusal = unsafe {
+            library::petalchurn_open(
+                tenant,
+                judge.log.as_ptr(),
+                judge.log.len(),
+                judge.work.as_mut_ptr(),
+                judge.work.len(),
+                judge.state.as_mut_ptr(),
+                judge.state.len(),
+            )
+        };
+        if refusal == 0 { Ok(judge) } else { Err(refusal) }
+    }
+
+    fn push(&mut self, rec: &[u8]) -> u64 {
+        unsafe {
+            library::petalchurn_push(
+                self.state.as_mut_ptr(),
+                self.state.len(),
+                self.log.as_mut_ptr(),
+                self.log.len(),
+                self.work.as_mut_ptr(),
+                self.work.len(),
+                rec.as_ptr(),
+                rec.len(),
+            )
+        }
+    }
+
+    fn report(&self, k: u64, out: &mut [u64]) -> u64 {
+        unsafe {
+            library::petalchurn_report(
+                self.state.as_ptr(),
+                self.state.len(),
+                k,
+                out.as_mut_ptr(),
+                out.len(),
+            )
+        }
+    }
+
+    fn blocks(&self, out: &mut [u64]) -> Answer {
+        unsafe {
+            library::petalchurn_blocks(
+                self.state.as_ptr(),
+                self.state.len(),
+                self.log.as_ptr(),
+                self.log.len(),
+                self.work.as_ptr(),
+                self.work.len(),
+                out.as_mut_ptr(),
+                out.len(),
+            )
+        }
+    }
+
+    fn holders_of(&self, id: u64, out: &mut [u64]) -> Answer {
+        unsafe {
+            library::petalchurn_holders_of(
+                self.state.as_ptr(),
+                self.state.len(),
+                self.log.as_ptr(),
+                self.log.len(),
+                self.work.as_ptr(),
+                self.work.len(),
+                id,
+                out.as_mut_ptr(),
+                out.len(),
+            )
+        }
+    }
+
+    fn trace(&mut self, tenant: u64, trace: &[u8], out: &mut [u64]) -> u64 {
+        unsafe {
+            library::petalchurn_trace(
+                tenant,
+                self.log.as_mut_ptr(),
+                self.log.len(),
+                self.work.as_mut_ptr(),
+                self.work.len(),
+                trace.as_ptr(),
+                trace.len(),
+                out.as_mut_ptr(),
+                out.len(),
+            )
+        }
+    }
+}
+
+/// Kind 11: a node is granted the ids from first to last, at an index.
+fn grant(node: u64, index: u64, run: u64, first: u64, last: u64) -> [u8; RECORD_SIZE] {
+    let mut rec = [0u8; RECORD_SIZE];
+    rec[0] = 11;
+    for (k, number) in [node, index, run, first, last].into_iter().enumerate() {
+        rec[8 + 8 * k..16 + 8 * k].copy_from_slice(&number.to_le_bytes());
+    }
+    rec
+}
+
+fn words(list: &[u64]) -> String {
+    list.iter().map(|word| format!(" {word}")).collect()
+}
+
+fn print_report(check: &str, report: &[u64]) {
+    if report[0] == 0 {
+        println!("{check} pass");
+    } else {
+        println!("{check} fault {} at {}:{}", report[0], report[1], words(&report[2..]));
+    }
+}
+
+fn main() {
+    let first = grant(1, 5, 1, 10, 19);
+    let second = grant(2, 6, 1, 19, 30);
+
+    let mut judge = match Judge::open(0, 96) {
+        Ok(judge) => judge,
+        Err(refusal) => {
+            println!("open {refusal}");
+            return;
+        }
+    };
+    println!("open 0");
+    println!("push {}", judge.push(&first));
+    println!("push {}", judge.push(&second));
+    println!("push of 367 bytes {}", judge.push(&first[..RECORD_SIZE - 1]));
+
+    let mut report = [0; REPORT_WORDS];
+    println!("report {}", judge.report(7, &mut report));
+    print_report(CHECKS[6], &report);
+
+    let mut list = [0; 8];
+    let blocks = judge.blocks(&mut list);
+    println!("blocks {} {}:{}", blocks.refusal, blocks.value, words(&list[..3 * blocks.value as usize]));
+    let holders = judge.holders_of(19, &mut list[..1]);
+    println!("holders in one word {} {}", holders.refusal, holders.value);
+
+    let mut answer = [0; TRACE_WORDS];
+    println!("trace {}", judge.trace(0, &[first, second].concat(), &mut answer));
+    for (check, report) in CHECKS.iter().zip(answer[2..].chunks(REPORT_WORDS)) {
+        print_report(check, report);
+    }
+    println!("records {}", answer[0]);
+    println!("refused at {}", answer[1]);
+}

@@ -1,0 +1,131 @@
+/* Petalchurn, a judge of recorded traces: the interface for C, and for any language that can call C.
+ *
+ * A trace is a run of records of 368 bytes each. A judge takes them one at a time and reports, for eight checks, the first fault
+ * or a pass. Every function of the library is proved against its contract (crates/petalchurn/specs); none has a condition on the
+ * values that it is given.
+ *
+ * Buffers
+ *   The caller owns every buffer. The library allocates nothing, keeps no pointer after a call, and has no state of its own:
+ *   what it knows between calls is in three buffers, which belong together and which nothing else may change:
+ *     state   PETALCHURN_STATE_WORDS words: the judge
+ *     log     368 * C bytes: the records taken, one after the other
+ *     work    32 * C words: what the checks note
+ *   C is the capacity, the most records that the judge takes: 1 to 4096.
+ *   A buffer is passed as a pointer and a length: bytes for log, rec and trace, words of 64 bits for the others. A pointer is not
+ *   null, also where the length is 0, and is aligned for its elements; a buffer that a call writes overlaps no other of that call.
+ *   Calls on different buffers may run at the same time.
+ *   If state, log and work do not come from one run of calls, every call is still safe, refusal 5 is still given where the table
+ *   says so, and a push still changes no byte of the log but the new record's; what it answers is not promised.
+ *
+ * Refusals
+ *   A refused call returns a number from this table, else 0. It leaves every buffer as it was, except where petalchurn_open and
+ *   petalchurn_trace say otherwise.
+ *     1  a record, or a trace's tail, is not 368 bytes
+ *     2  the record's kind is not 1 to 12
+ *     3  a value of the record is none of its kind's
+ *     4  a place that the record's kind does not use is not zero
+ *     5  state is no judge's: not 59 words, a kind above 255, a capacity above 4096, a count above the capacity; or the lengths
+ *        of log or work are not those of the capacity
+ *     6  the judge has taken as many records as its capacity
+ *     7  for no capacity from 1 to 4096 is log 368 * C bytes and work 32 * C words
+ *     8  the list for the answer is too short (for petalchurn_open: state is not 59 words)
+ *   A push tests 5, 1, 2, 3, 4, 6 in that order; the others test 5, then 8; petalchurn_open and petalchurn_trace test 8 first.
+ *
+ * A report is seven words: its kind (0 for a pass), the number of the record that it arose at (from 1), and five evidence
+ * numbers, missing ones 0. The eight reports, numbered in printing order:
+ *     1 agreement  2 overlap  3 install  4 twice  5 half  6 generations  7 ids  8 meta
+ *
+ * The 59 words of state: capacity, count of the records taken, tenant, then the eight reports, seven words each.
+ *
+ * Usage: a judge for up to 96 records
+ *     static uint8_t log_[368 * 96];
+ *     static uint64_t work[32 * 96], state[PETALCHURN_STATE_WORDS], report[PETALCHURN_REPORT_WORDS];
+ *     if (petalchurn_open(0, log_, sizeof log_, work, 32 * 96, state, PETALCHURN_STATE_WORDS) != 0)
+ *         return 1;
+ *     while (next_record(rec))
+ *         if ((refusal = petalchurn_push(state, PETALCHURN_STATE_WORDS, log_, sizeof log_, work, 32 * 96, rec, 368)) != 0)
+ *             return 1;
+ *     petalchurn_report(state, PETALCHURN_STATE_WORDS, 7, report, PETALCHURN_REPORT_WORDS);
+ *     if (report[0] != 0)
+ *         printf("ids: fault %" PRIu64 " at record %" PRIu64 "\n", report[0], report[1]);
+ */
+#ifndef PETALCHURN_H
+#define PETALCHURN_H
+
+#include <stddef.h>
+#include <stdint.h>
+
+#ifdef __cplusplus
+extern "C" {
+#endif
+
+#define PETALCHURN_RECORD_SIZE 368  /* bytes of a record */
+#define PETALCHURN_WORK_WORDS 32    /* words of the work area for each record of the capacity */
+#define PETALCHURN_CAPACITY 4096    /* the largest capacity */
+#define PETALCHURN_STATE_WORDS 59   /* words of a judge */
+#define PETALCHURN_REPORT_WORDS 7   /* words of a report */
+#define PETALCHURN_TRACE_WORDS 58   /* words of a whole trace's answer */
+
+/* What a look-up answers: the refusal's number, and the value, which is 0 where the call is refused. */
+typedef struct {
+    uint64_t refusal;
+    uint64_t value;
+} petalchurn_answer;
+
+/* Opens a judge over a log and a work area, whose lengths say its capacity; tenant is the number that names a group's keys.
+ * Refusals: 8 (nothing is written), 7.
+ * Writes all of state: the opened judge, of count 0 and eight passes; at refusal 7 the judge of capacity 0.
+ * Zeroes all of work; at refusal 7 work is as it was. The log is only measured. */
+uint64_t petalchurn_open(uint64_t tenant, const uint8_t *log, size_t log_len, uint64_t *work, size_t work_len,
+                         uint64_t *state, size_t state_len);
+
+/* Takes one record: judges it, notes it in work, copies it to the log after those taken before, and writes the judge to state.
+ * After a fault records are still taken; a check's first fault stays.
+ * Refusals: 5, 1, 2, 3, 4, 6. */
+uint64_t petalchurn_push(uint64_t *state, size_t state_len, uint8_t *log, size_t log_len, uint64_t *work, size_t work_len,
+                         const uint8_t *rec, size_t rec_len);
+
+/* Writes the report with number k, 1 to 8, to the first seven words of out; the rest of out is left. Any other k is a pass.
+ * Refusals: 5 (by the state alone), 8. */
+uint64_t petalchurn_report(const uint64_t *state, size_t state_len, uint64_t k, uint64_t *out, size_t out_len);
+
+/* Judges a whole trace: opens a judge, and pushes the trace's records, of 368 bytes each, up to the first refusal, which it
+ * returns; a tail that is shorter is refused with 1. The records before it remain taken: log and work are as the pushes left them.
+ * Refusals: 8 (nothing is written), 7 (log and work are as they were), 1, 2, 3, 4, 6.
+ * Writes the first 58 words of out and leaves the rest:
+ *     0        how many records were taken
+ *     1        the number of the refused record, from 1; 0 where none was refused or the opening was
+ *     2 to 57  the eight reports, seven words each */
+uint64_t petalchurn_trace(uint64_t tenant, uint8_t *log, size_t log_len, uint64_t *work, size_t work_len,
+                          const uint8_t *trace, size_t trace_len, uint64_t *out, size_t out_len);
+
+/* The number of the record that put a range's value: at the greatest index below the one given; at the greatest index not above
+ * it; and the first value, in time, that was put with a generation. 0 where there is none.
+ * Refusals: 5. */
+petalchurn_answer petalchurn_before(const uint64_t *state, size_t state_len, const uint8_t *log, size_t log_len,
+                                    const uint64_t *work, size_t work_len, uint64_t range, uint64_t index);
+petalchurn_answer petalchurn_at(const uint64_t *state, size_t state_len, const uint8_t *log, size_t log_len,
+                                const uint64_t *work, size_t work_len, uint64_t range, uint64_t index);
+petalchurn_answer petalchurn_first_at_generation(const uint64_t *state, size_t state_len, const uint8_t *log, size_t log_len,
+                                                 const uint64_t *work, size_t work_len, uint64_t range, uint64_t generation);
+
+/* How many statements of descriptors were taken; and 1 where no value has been put, else 0.
+ * Refusals: 5. */
+petalchurn_answer petalchurn_statements(const uint64_t *state, size_t state_len, const uint8_t *log, size_t log_len,
+                                        const uint64_t *work, size_t work_len);
+petalchurn_answer petalchurn_is_empty(const uint64_t *state, size_t state_len, const uint8_t *log, size_t log_len,
+                                      const uint64_t *work, size_t work_len);
+
+/* Writes the node of each block of ids that contains an id, one word each; or every block, three words each: first, last, node.
+ * Both come by first id, then by time. The value is how many there are; the rest of out is left.
+ * Refusals: 5, then 8 where out is shorter than the answer. */
+petalchurn_answer petalchurn_holders_of(const uint64_t *state, size_t state_len, const uint8_t *log, size_t log_len,
+                                        const uint64_t *work, size_t work_len, uint64_t id, uint64_t *out, size_t out_len);
+petalchurn_answer petalchurn_blocks(const uint64_t *state, size_t state_len, const uint8_t *log, size_t log_len,
+                                    const uint64_t *work, size_t work_len, uint64_t *out, size_t out_len);
+
+#ifdef __cplusplus
+}
+#endif
+
+#endif
