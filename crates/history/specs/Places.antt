@@ -2,7 +2,7 @@
 use Prim.Native.Nat.{ℕ}
 
 -- `Descriptors`: the applied indexes by node and range; the standing values by range; the statements by range; the first
--- value of each range and generation; the counts of statements and of standing values
+-- value of each range and generation; the count of statements, with whether a value stands
 abbrev pub appliedHeads : ℕ
 appliedHeads = 0
 
