@@ -37,11 +37,7 @@ pub struct Buffers {
 
 impl Buffers {
     pub fn new(capacity: usize) -> Buffers {
-        Buffers {
-            log: vec![0; RECORD * capacity],
-            work: vec![0; 32 * capacity],
-            out: [0; ANSWER],
-        }
+        Buffers { log: vec![0; RECORD * capacity], work: vec![0; 32 * capacity], out: [0; ANSWER] }
     }
 
     /// Judges a trace. The call opens the judge, which clears the work area.

@@ -137,6 +137,54 @@ fn splits(n: usize) -> Vec<Record> {
     records
 }
 
+/// A quarter of the records register splits of one parent, told by a node that takes no part; then the record given, by
+/// nodes that owe nothing: each looks through all of the splits.
+fn looked_through(n: usize, then: impl Fn(u64) -> Record) -> Vec<Record> {
+    let mut records = Vec::new();
+    for i in 0..(n / 4) as u64 {
+        let mut made = valued(record(1, 2, Some(9), [i + 100, i + 1, 1, 1, 0]), slot(i as usize));
+        made.flag = 1;
+        records.push(made);
+    }
+    for i in 0..(n - records.len()) as u64 {
+        records.push(then(i));
+    }
+    records
+}
+
+/// A node that restates over and over.
+fn restated(n: usize) -> Vec<Record> {
+    looked_through(n, |_| record(5, 0, Some(1), [0; 5]))
+}
+
+/// A node that holds the right range of each split and applies it by a Took, over and over.
+fn taken(n: usize) -> Vec<Record> {
+    let splits = (n / 4) as u64;
+    looked_through(n, |i| {
+        let at = i % splits;
+        if i < splits {
+            return valued(record(1, 1, Some(1), [at + 100, at + 1, 0, 1, 0]), slot(at as usize));
+        }
+        record(3, 4, Some(1), [1, at + 1, 0, 0, 0])
+    })
+}
+
+/// A node that owes every split's right range and holds all but the first, which it is told of at the end.
+fn owed(n: usize) -> Vec<Record> {
+    let splits = (n / 4) as u64;
+    let mut records = looked_through(n, |i| match i {
+        i if i < splits => record(7, 0, Some(1), [1, i + 1, i + 100, 0, 0]),
+        i if i < 2 * splits - 1 => {
+            let at = i - splits + 1;
+            valued(record(1, 1, Some(1), [at + 100, at + 1, 0, 1, 0]), slot(at as usize))
+        }
+        _ => record(9, 0, Some(1), [50, 0, 0, 0, 0]),
+    });
+    records.pop();
+    records.push(record(5, 0, Some(1), [0; 5]));
+    records
+}
+
 fn one_key(n: usize) -> Vec<Record> {
     let mut records = vec![valued(record(1, 1, Some(1), [1, 1, 0, 1, 0]), all())];
     for index in 2..=n as u64 {
@@ -165,20 +213,21 @@ fn grants_falling(n: usize) -> Vec<Record> {
 type Maker = fn(usize) -> Vec<Record>;
 
 /// The traces by name.
-pub const WORST: [(&str, Maker); 14] = [
+pub const WORST: [(&str, Maker); 17] = [
     ("one range: puts at rising indexes", puts),
     ("one range: one put, then statements", statements),
     ("one range: puts, each restated", puts_and_statements),
     ("fifty ranges at three nodes", fifty_ranges),
     ("kind 12, disjoint spans", |n| metas(n, 1, |i, at| (at, 0, slot(i)))),
     ("kind 12, each wins everything", |n| metas(n, 1, |_, at| (at, 0, all()))),
-    ("kind 12, disjoint, generations vary", |n| {
-        metas(n, 16, |i, at| (at, at * 7 % 16, slot(i)))
-    }),
+    ("kind 12, disjoint, generations vary", |n| metas(n, 16, |i, at| (at, at * 7 % 16, slot(i)))),
     ("kind 12, disjoint, indexes fall", |n| metas(n, 1, |i, at| (10_000 - at, 0, slot(i)))),
     ("one node makes every range", every_range_held),
     ("one range made and removed", made_and_removed),
     ("one parent splits again and again", splits),
+    ("splits, then one node restates", restated),
+    ("splits, then one node applies each", taken),
+    ("splits, all owed, one missing at the end", owed),
     ("one key written again and again", one_key),
     ("grants, rising", grants),
     ("grants, falling", grants_falling),
