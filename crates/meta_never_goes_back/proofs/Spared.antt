@@ -1,29 +1,32 @@
--- Where no name can be in conflict with a new one there is no faulty key: so most walks are spared.
+-- Where no name can be in conflict with a new one, or one covers it, there is no faulty key: so most walks are spared.
 use mathlib.Core.Path.{_≡_, refl, sym, ap, _∙_}
 use mathlib.Core.Bool.{Bool, true, false, cond, _||_, not, _&&_}
-use mathlib.Core.List.{List}
+use mathlib.Core.List.{List, _∷_}
 use mathlib.Core.Option.{Option, none, some}
 use Prim.Native.Nat.{ℕ, _-_, _<_}
 use lib.Dec.{ltb, leb}
-use borrow.Author.Tests.{not-true, ltb-true, ltb-false, le-leb, lt-leb}
-use Rattle.record.specs.Keys.{Key, keyLtb, Lt, Le}
+use borrow.Author.Tests.{ltb-true, ltb-false, lt-ltb, le-ltb, leb-true, le-leb, lt-leb}
+use Rattle.record.specs.Keys.{Key, Lt, Le}
 use Rattle.record.specs.Records.{TraceRecord, decode}
 use Rattle.record.proofs.Keys.{le-lt-lt}
 use Rattle.rules.specs.Cases.{isFault, faultIf, caseOf}
 use Rattle.rules.specs.Descriptors.{spanOf}
 use Rattle.rules.specs.History.{anyOf}
-use Rattle.rules.specs.MetaNeverGoesBack.{Name, covers, standingName, nameFault, keyFault, wonFault, isWon, nameBy, names}
+use Rattle.rules.specs.MetaNeverGoesBack.{Name, covers, standingName, nameFault, keyFault, wonFault, nameBy, names, metaAt}
+use Rattle.rules.specs.Reports.{atLast, reportOf}
 use Rattle.rules.specs.declared.Case.{Case}
 use Rattle.rules.specs.declared.Case.the-variants.{Clear}
+use Rattle.rules.specs.declared.Verdict.the-variants.{Pass}
 use Rattle.rules.proofs.Best.{Greatest}
 use Rattle.rules.proofs.Booleans.{and-left, and-right}
-use Rattle.rules.proofs.Members.{NonePasses, anyOf-none}
+use Rattle.rules.proofs.Members.{Mem, here, there, NonePasses, anyOf-none}
 use Rattle.rules.proofs.MetaLeast.{standingName-right, clean, wonFault-found}
 use Rattle.rules.proofs.Placed.{Answer, placed-mem}
-use Rattle.rules.proofs.Skips.{anyOf-nil}
+use Rattle.rules.proofs.Skips.{anyOf-nil, anyOf-skip}
 use Rattle.history.specs.Logs.{bytesAt, recordAt, hist}
 use Rattle.history.proofs.Logs.{record-bytes}
-use Rattle.meta_never_goes_back.specs.Walk.{against, meets, opposes}
+use Rattle.meta_never_goes_back.specs.Walk.{against, meets, opposes, coversAll, Passed}
+use Rattle.meta_never_goes_back.proofs.Highest.{covered-low, covered-high, covered-clear}
 use Rattle.meta_never_goes_back.proofs.Naming.{Down, names-more, names-end}
 
 -- a name is at fault by its numbers
@@ -48,10 +51,17 @@ fault-against x n =
 
 -- a name of a won key meets the won span
 does-meet : (x : TraceRecord) (n : Name) (k : Key) → Le (spanOf 1 x .start) k → Lt k (spanOf 1 x .end) → covers k n ≡ true → meets x n ≡ true
-does-meet x n k a b h =
-    let p : Le (n .start) k = record { is = not-true _ (and-left (not (keyLtb k (n .start))) (keyLtb k (n .end)) h) } in
-    let q : Lt k (n .end) = record { is = and-right (not (keyLtb k (n .start))) (keyLtb k (n .end)) h } in
-    rw (le-lt-lt p b .is, le-lt-lt a q .is)
+does-meet x n k a b h = rw (le-lt-lt (covered-low k n h) b .is, le-lt-lt a (covered-high k n h) .is)
+
+-- a name that a new one surpasses does not oppose it
+abbrev surpasses : TraceRecord → Name → Bool
+surpasses x n = ltb (n .index) (x .b) && leb (n .generation) (x .d)
+
+surpassed-clear : (x : TraceRecord) (n : Name) → surpasses x n ≡ true → opposes x n ≡ false
+surpassed-clear x n e =
+    let i = ltb-true (n .index) (x .b) (and-left (ltb (n .index) (x .b)) (leb (n .generation) (x .d)) e) in
+    let g = leb-true (n .generation) (x .d) (and-right (ltb (n .index) (x .b)) (leb (n .generation) (x .d)) e) in
+    rw (lt-ltb (n .index) (x .b) i, le-ltb (x .d) (n .generation) g, lt-leb (x .b) (n .index) i)
 
 drop-meets : (a m : Bool) → (a && m) ≡ false → m ≡ true → a ≡ false
 drop-meets true m e f = sym f ∙ e
@@ -68,31 +78,44 @@ module _ (x : TraceRecord) (ns : List Name) (h : NonePasses (opposes x) ns) wher
   unfolding keyFault
   clear-key k a b = clear-by k a b (standingName ns k) (standingName-right ns k)
 
-pub spared : (x : TraceRecord) (ns : List Name) → anyOf (opposes x) ns ≡ false → Clear ≡ wonFault x ns
-spared x ns e = sym (wonFault-found x ns (clean (clear-key x ns (anyOf-none (opposes x) ns e)) refl))
+spared : (x : TraceRecord) (ns : List Name) → anyOf (opposes x) ns ≡ false → wonFault x ns ≡ Clear
+spared x ns e = wonFault-found x ns (clean (clear-key x ns (anyOf-none (opposes x) ns e)) refl)
 
--- ---- a scan of the names, newest first, for one that passes
+-- ---- a scan of the names, newest first
 
-pub record Passed (p : Name → Bool) (log : List ℕ) (n i : ℕ) : Type 0 where
-  pub here : 0 < i → isWon (recordAt log (i - 1)) ≡ true
-  pub same : anyOf p (names (hist log n)) ≡ anyOf p (names (hist log i))
+module _ {x : TraceRecord} {log : List ℕ} where
+  pub passed-first : {n i : ℕ} → Down log n i → Passed x log n i
+  passed-first d = record { here = d .here; same = ap (anyOf (opposes x)) (d .same); among = λ o m. rw (d .same) m }
 
-module _ {p : Name → Bool} {log : List ℕ} where
-  pub passed-first : {n i : ℕ} → Down log n i → Passed p log n i
-  passed-first d = record { here = d .here; same = ap (anyOf p) (d .same) }
+  module _ {n i : ℕ} (w : Passed x log n i) where
+    pub passed-end : i ≡ 0 → wonFault x (names (hist log n)) ≡ Clear
+    passed-end e = spared x (names (hist log n)) (w .same ∙ ap (anyOf (opposes x)) (names-end log e) ∙ anyOf-nil (opposes x))
 
-  module _ {n i : ℕ} (w : Passed p log n i) where
-    pub passed-end : i ≡ 0 → anyOf p (names (hist log n)) ≡ false
-    passed-end e = w .same ∙ ap (anyOf p) (names-end log e) ∙ anyOf-nil p
+    module _ (l : 0 < i) {old : List ℕ} (r : old ≡ bytesAt (i - 1) log) where
+      abbrev next : Name
+      next = nameBy (recordAt log (i - 1))
 
-    module _ (l : 0 < i) {d : Bool} {old : List ℕ} (o : old ≡ bytesAt (i - 1) log) (e : d ≡ p (nameBy (decode old))) where
-      turn : anyOf p (names (hist log n)) ≡ (d || anyOf p (names (hist log (i - 1))))
-      unfolding anyOf
-      turn = w .same ∙ ap (anyOf p) (names-more log l (w .here l))
-          ∙ ap (λ (b : Bool). b || anyOf p (names (hist log (i - 1)))) (sym (e ∙ ap (λ (x : TraceRecord). p (nameBy x)) (record-bytes log (i - 1) o)))
+      left : names (hist log i) ≡ next ∷ names (hist log (i - 1))
+      left = names-more log l (w .here l)
 
-      pub passed-hit : d ≡ true → anyOf p (names (hist log n)) ≡ true
-      passed-hit q = turn ∙ rw q
+      tested : (p : Name → Bool) {t b : Bool} → t ≡ p (nameBy (decode old)) → t ≡ b → p next ≡ b
+      tested p e q = ap (λ (y : TraceRecord). p (nameBy y)) (sym (record-bytes log (i - 1) r)) ∙ sym e ∙ q
 
-      pub passed-miss : {j : ℕ} → d ≡ false → Down log (i - 1) j → Passed p log n j
-      passed-miss q r = record { here = r .here; same = turn ∙ rw q (ap (anyOf p) (r .same)) }
+      -- the next one covers the new one; it does not oppose it; the new one surpasses it
+      pub passed-covered : {t : Bool} → t ≡ coversAll x (nameBy (decode old)) → t ≡ true → reportOf (atLast metaAt) (hist log n) .verdict ≡ Pass
+          → wonFault x (names (hist log n)) ≡ Clear
+      passed-covered e q p = covered-clear x (hist log n) p (w .among next (rw left here)) (tested (coversAll x) e q)
+
+      passed-by : {j : ℕ} → opposes x next ≡ false → Down log (i - 1) j → Passed x log n j
+      passed-by q d = record {
+        here = d .here;
+        same = w .same ∙ ap (anyOf (opposes x)) left ∙ anyOf-skip (opposes x) next _ q ∙ ap (anyOf (opposes x)) (d .same);
+        among = λ o m. w .among o (let k : Mem o (names (hist log (i - 1))) = rw (d .same) m in rw left (there k));
+      }
+
+      pub passed-miss : {t : Bool} {j : ℕ} → t ≡ opposes x (nameBy (decode old)) → t ≡ false → Down log (i - 1) j → Passed x log n j
+      passed-miss e q d = passed-by (tested (opposes x) e q) d
+
+      pub passed-over : {t : Bool} {index generation b d j : ℕ} → index ≡ x .b → generation ≡ x .d → b ≡ decode old .b → d ≡ decode old .d
+          → t ≡ ltb b index && leb d generation → t ≡ true → Down log (i - 1) j → Passed x log n j
+      passed-over p q f g e z d = passed-by (surpassed-clear x next (tested (surpasses x) (e ∙ rw (p, q, f, g)) z)) d

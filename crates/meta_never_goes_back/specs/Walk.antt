@@ -1,15 +1,18 @@
 -- The parts of the check: a name by its record's number, the name that stands after one more, the next end of a name above
--- a key, and the names that can be in conflict with a new one.
-use mathlib.Core.Bool.{Bool, cond, _&&_, _||_}
+-- a key, the names that can be in conflict with a new one, those that cover it, and a scan for one.
+use mathlib.Core.Path.{_≡_}
+use mathlib.Core.Bool.{Bool, true, cond, not, _&&_, _||_}
 use mathlib.Core.List.{List}
 use mathlib.Core.Option.{Option, none, some}
-use Prim.Native.Nat.{ℕ, zero, suc}
+use Prim.Native.Nat.{ℕ, zero, suc, _-_, _<_}
 use lib.Dec.{ltb, leb}
 use Rattle.record.specs.Keys.{Key, keyLtb}
 use Rattle.record.specs.Records.{TraceRecord}
 use Rattle.rules.specs.Descriptors.{spanOf}
-use Rattle.rules.specs.MetaNeverGoesBack.{Name, nameBy, covers}
-use Rattle.history.specs.Logs.{recordAt}
+use Rattle.rules.specs.History.{anyOf}
+use Rattle.rules.specs.MetaNeverGoesBack.{Name, isWon, nameBy, names, covers}
+use Rattle.rules.proofs.Members.{Mem}
+use Rattle.history.specs.Logs.{recordAt, hist}
 use Rattle.history.proofs.Queries.{greatestStep}
 
 -- the name that the record of a number gives, none for 0
@@ -37,3 +40,22 @@ meets x n = keyLtb (n .start) (spanOf 1 x .end) && keyLtb (spanOf 1 x .start) (n
 -- only such a name can be in conflict with a won key
 abbrev pub opposes : TraceRecord → Name → Bool
 opposes x n = against x n && meets x n
+
+-- an earlier name neither of whose numbers is lower ..
+abbrev pub notLower : TraceRecord → Name → Bool
+notLower x n = leb (x .b) (n .index) && leb (x .d) (n .generation)
+
+-- .. whose span has all the won keys
+abbrev pub contains : TraceRecord → Name → Bool
+contains x n = not (keyLtb (spanOf 1 x .start) (n .start)) && not (keyLtb (n .end) (spanOf 1 x .end))
+
+-- while the report is a pass, no key of a won span that such a name covers is in conflict
+abbrev pub coversAll : TraceRecord → Name → Bool
+coversAll x n = notLower x n && contains x n
+
+-- a scan of the names, newest first: of those of the first n records, the ones before place i are left, the next of them that
+-- of the record there, and none so far opposes
+pub record Passed (x : TraceRecord) (log : List ℕ) (n i : ℕ) : Type 0 where
+  pub here : 0 < i → isWon (recordAt log (i - 1)) ≡ true
+  pub same : anyOf (opposes x) (names (hist log n)) ≡ anyOf (opposes x) (names (hist log i))
+  pub among : (o : Name) → Mem o (names (hist log i)) → Mem o (names (hist log n))

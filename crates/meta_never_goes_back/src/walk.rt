@@ -15,7 +15,9 @@ ghost use lib.ListN.{length};
 ghost use Rattle.record.specs.Keys.{keyIn};
 ghost use Rattle.record.specs.Records.{decode};
 ghost use Rattle.rules.specs.Cases.{faultIf, isFault, caseOf};
-ghost use Rattle.rules.specs.MetaNeverGoesBack.{isWon, nameBy, names, covers, nameFault, wonFault};
+ghost use Rattle.rules.specs.declared.Verdict.the-variants.{Pass};
+ghost use Rattle.rules.specs.MetaNeverGoesBack.{isWon, nameBy, names, covers, nameFault, wonFault, metaAt};
+ghost use Rattle.rules.specs.Reports.{atLast, reportOf};
 ghost use Rattle.history.specs.Bounds.{Bounds};
 ghost use Rattle.history.specs.Logs.{recordAt, hist};
 ghost use Rattle.meta_never_goes_back.specs.Index.{MetaIndexed};
@@ -120,10 +122,10 @@ fn walk<'a>(log: &'a [u8], work: &[u64], count: usize, cap: usize, rec: &'a [u8]
     }
 }
 
-// The case of the keys that a record wins.
+// The case of the keys that a record wins, while the report is a pass.
 pub fn won<'a>(log: &'a [u8], work: &[u64], count: usize, cap: usize, rec: &'a [u8]) -> Case
     requires { ⌜ Bounds (now log) (now work) count cap × (length (now rec) ≡ 368) ⌝ }
-    ensures { λ r. ⌜ (MetaIndexed cap (hist (now (log .entry)) count) (now (work .entry)) → r ≡ faultIf (isWon (decode (now (rec .entry)))) (wonFault (decode (now (rec .entry))) (names (hist (now (log .entry)) count)))) ⌝ }
+    ensures { λ r. ⌜ (MetaIndexed cap (hist (now (log .entry)) count) (now (work .entry)) → reportOf (atLast metaAt) (hist (now (log .entry)) count) .verdict ≡ Pass → r ≡ faultIf (isWon (decode (now (rec .entry)))) (wonFault (decode (now (rec .entry))) (names (hist (now (log .entry)) count)))) ⌝ }
 {
     if !is_won(rec) {
         return Case::Clear;

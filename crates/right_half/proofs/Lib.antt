@@ -7,6 +7,7 @@ pub mod Noting
 pub mod Notes
 pub mod Walks
 pub mod Comings
+pub mod Parts
 pub mod Arising
 pub mod Owing
 pub mod Searches

@@ -26,15 +26,17 @@ use Rattle.one_owner_per_key.specs.Numbers.{latestNumber, heldNumber}
 use Rattle.one_owner_per_key.specs.Index.{wordBy}
 use Rattle.one_owner_per_key.specs.Answers.{foundAt}
 use Rattle.rules.proofs.Booleans.{decide}
+use Rattle.one_owner_per_key.proofs.Marks.{and-none}
 use Rattle.one_owner_per_key.proofs.Holds.{held-some}
 use Rattle.one_owner_per_key.proofs.Latest.{number-bound, number-is, number-over}
 use Rattle.one_owner_per_key.proofs.Lowest.{atMost, Sound, Least, none-sound, sound-lower, at-most-still, at-most-new}
 use Rattle.right_half.specs.Numbers.{isRegistering, latestRegistering, namesNumber, namedNumber, pendingNumber, cancelNumber}
 use Rattle.right_half.specs.Splits.{parentBy, rightBy, splitWith, splitAs}
-use Rattle.right_half.specs.Walk.{owesSplit, lacksSplit, foundIn, isBelow}
+use Rattle.right_half.specs.Walk.{hasPart, owesSplit, lacksSplit, foundIn, isBelow}
 use Rattle.right_half.proofs.States.{pending-bound}
 use Rattle.right_half.proofs.Splits.{unlessNamed, named-is}
 use Rattle.right_half.proofs.Noting.{registering-is}
+use Rattle.right_half.proofs.Parts.{owes-away}
 use Rattle.right_half.proofs.Owing.{split-is, split-owes, SplitOwing, owes-split}
 
 -- ---- what is held
@@ -56,10 +58,22 @@ held-not node right h {f} e g = held-some node right h ∙ go (eqb (heldNumber n
         let z : _≡_ {A = ℕ} 0 1 = cc in
         absurd (omega arith)
 
+-- .. by the number of the record that it is held by
+module _ (node right : ℕ) (h : History) {k : ℕ} (e : k ≡ heldNumber node right h) where
+  pub held-over : (k ≡ 0 → ⊥) → isHeld node right h ≡ true
+  held-over z = held-some node right h ∙ rw (← e, ne-eqb k 0 z)
+
+  pub held-zero : k ≡ 0 → isHeld node right h ≡ false
+  held-zero z = held-some node right h ∙ rw (← e, eq-eqb k 0 z)
+
 module _ (log : List ℕ) (n node t right : ℕ) where
   pub lacks-held : isHeld node right (hist log n) ≡ true → false ≡ lacksSplit log n node t right
   unfolding lacksSplit
   lacks-held e = rw e
+
+  pub lacks-away : t < n → hasPart log n node (recordAt log t) ≡ false → false ≡ lacksSplit log n node t right
+  unfolding lacksSplit
+  lacks-away l e = rw (← owes-away log n node t (cancelNumber node right (hist log n)) l e) (sym (and-none (not (isHeld node right (hist log n)))))
 
   pub lacks-owes : {r : Bool} {c : ℕ} → isHeld node right (hist log n) ≡ false → c ≡ cancelNumber node right (hist log n) → r ≡ owesSplit log n node t c → r ≡ lacksSplit log n node t right
   unfolding lacksSplit

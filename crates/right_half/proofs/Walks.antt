@@ -27,7 +27,7 @@ use Rattle.right_half.proofs.Tests.{or-none}
 use Rattle.one_owner_per_key.proofs.Latest.{number-bound}
 use Rattle.one_owner_per_key.proofs.Walks.{Walking, Within}
 use Rattle.right_half.specs.declared.owed.Asked.{Asked}
-use Rattle.right_half.specs.declared.owed.Asked.the-variants.{Removed, Traced, Recording}
+use Rattle.right_half.specs.declared.owed.Asked.the-variants.{Removed, Traced, Recording, Applying}
 use Rattle.right_half.specs.Numbers.{restatedNumber}
 use Rattle.right_half.specs.Index.{HalfIndexed, serverCell, restatedCell}
 use Rattle.right_half.specs.Walk.{asksKind, asks, applying, comes, above}
@@ -75,6 +75,7 @@ module _ (log : List ℕ) (node : ℕ) {count cap : ℕ} {work : List ℕ} (hf :
   kind-same (Traced i) x m n t e f = refl
   kind-same Recording x m n true e f = rw (f refl)
   kind-same Recording x m n false e f = rw e
+  kind-same Applying x m n t e f = refl
 
   asks-cases : (q : Asked) (range : ℕ) (b : Bool) → isBy node (recordAt log k) ≡ b
       → b && eqb (recordAt log k .a) range && asksKind q (recordAt log k) (not (eqb (getD work (23 * cap + k) 0) 0))
@@ -151,17 +152,26 @@ module _ (x : TraceRecord) where
   abbrev tookIt : Bool
   tookIt = isKind 3 x && eqb (x .code) 4
 
+  took-chained : hasEffect Took x ≡ true → isChained x ≡ true
+  took-chained t = in-3 (isKind 1 x) (isKind 2 x) (isKind 7 x) (isKind 9 x) tookIt (ap (λ (u : Bool). isKind 3 x && u) (sym (took-code (x .code))) ∙ t)
+
   asked-chained : (q : Asked) (m : Bool) → asksKind q x m ≡ true → isChained x ≡ true
   asked-chained Removed m e = in-9 (isKind 1 x) (isKind 2 x) (isKind 7 x) (isKind 9 x) tookIt e
   asked-chained (Traced i) m e = in-7 (isKind 1 x) (isKind 2 x) (isKind 7 x) (isKind 9 x) tookIt (and-left (isKind 7 x) (eqb (x .b) i) e)
   asked-chained Recording m e = in-2 (isKind 1 x) (isKind 2 x) (isKind 7 x) (isKind 9 x) tookIt (and-left (isKind 2 x) (not m) e)
+  asked-chained Applying m e =
+      or-case (isKind 2 x || isKind 7 x) (hasEffect Took x) e
+      (λ p. or-case (isKind 2 x) (isKind 7 x) p
+      (λ t. in-2 (isKind 1 x) (isKind 2 x) (isKind 7 x) (isKind 9 x) tookIt t)
+      (λ t. in-7 (isKind 1 x) (isKind 2 x) (isKind 7 x) (isKind 9 x) tookIt t))
+      took-chained
 
   applying-chained : (index : ℕ) (m : Bool) → applying index x m ≡ true → isChained x ≡ true
   applying-chained index m e =
       or-case ((isKind 7 x || hasEffect Took x) && eqb (x .b) index) (isKind 2 x && not m && leb index (x .c)) e
       (λ p. or-case (isKind 7 x) (hasEffect Took x) (and-left _ (eqb (x .b) index) p)
       (λ t. in-7 (isKind 1 x) (isKind 2 x) (isKind 7 x) (isKind 9 x) tookIt t)
-      (λ t. in-3 (isKind 1 x) (isKind 2 x) (isKind 7 x) (isKind 9 x) tookIt (ap (λ (u : Bool). isKind 3 x && u) (sym (took-code (x .code))) ∙ t)))
+      took-chained)
       (λ p. in-2 (isKind 1 x) (isKind 2 x) (isKind 7 x) (isKind 9 x) tookIt (and-left (isKind 2 x) (not m) (and-left (isKind 2 x && not m) _ p)))
 
 pub by-asked : (cap : ℕ) (q : Asked) (node range : ℕ) → Within (asks q node range) (byHold cap) (bucketByTwo cap node range)

@@ -17,17 +17,19 @@ use Rattle.rules.specs.RightHalf.{Registered, serverOf, isRestated}
 use Rattle.history.specs.Logs.{recordAt, hist}
 use Rattle.one_owner_per_key.specs.Numbers.{latestNumber}
 use Rattle.right_half.specs.declared.owed.Asked.{Asked}
-use Rattle.right_half.specs.declared.owed.Asked.the-variants.{Removed, Traced, Recording}
+use Rattle.right_half.specs.declared.owed.Asked.the-variants.{Removed, Traced, Recording, Applying}
 use Rattle.right_half.specs.Numbers.{refusedNumber, cancelNumber}
 use Rattle.right_half.specs.Splits.{parentBy}
 
 -- ---- records of a node and a range
 
--- a RangeRemoved; a RangeSplit at an index; a RangeDescriptor that records an index. m: whether the node is restated
+-- a RangeRemoved; a RangeSplit at an index; a RangeDescriptor that records an index; any of the kinds that can apply a split.
+-- m: whether the node is restated
 abbrev pub asksKind : Asked → TraceRecord → Bool → Bool
 asksKind Removed x m = isKind 9 x
 asksKind (Traced index) x m = isKind 7 x && eqb (x .b) index
 asksKind Recording x m = isKind 2 x && not m
+asksKind Applying x m = isKind 2 x || isKind 7 x || hasEffect Took x
 
 unfoldable pub asks : Asked → ℕ → ℕ → TraceRecord → History → Bool
 asks q node range x h = isBy node x && eqb (x .a) range && asksKind q x (isRestated node h)
@@ -47,6 +49,10 @@ abbrev pub above : ℕ → ℕ → ℕ
 above floor n = cond (ltb floor n) n 0
 
 -- ---- at the registering record y, which is after h
+
+-- the node has a part in the split by the first n records: y is its own, or it has a record of the parent that can apply one
+unfoldable pub hasPart : List ℕ → ℕ → ℕ → TraceRecord → Bool
+hasPart log n node y = isBy node y || not (eqb (latestNumber (asks Applying node (parentBy y)) (hist log n)) 0)
 
 -- the node's "recorded index of the parent reaches it"; it traced a RangeSplit of it since its latest RaftRefused; or y is
 -- its own RangeDescriptor that has applied it

@@ -26,14 +26,15 @@ ghost use Rattle.history.specs.Bounds.{Bounds};
 ghost use Rattle.right_half.specs.Numbers.{refusedNumber, cancelNumber};
 ghost use Rattle.right_half.specs.Index.{Known};
 ghost use Rattle.right_half.specs.Splits.{parentBy};
-ghost use Rattle.right_half.specs.Walk.{asksKind, asks, applying, comes, above, reached, traced, appliedFirst, owesFirst, owesSplit};
+ghost use Rattle.right_half.specs.Walk.{asksKind, asks, applying, comes, above, reached, traced, hasPart, appliedFirst, owesFirst, owesSplit};
 
 // Which records of a node and a range are looked for: a RangeRemoved, a RangeSplit at an index, a RangeDescriptor that
-// records an index.
+// records an index, any of the kinds that can apply a split.
 pub enum Asked {
     Removed,
     Traced(u64),
     Recording,
+    Applying,
 }
 
 // Whether a record is of the kind looked for; mark: its node's latest RangesRestated.
@@ -46,6 +47,7 @@ fn is_asked(rec: &[u8], mark: u64, asked: Asked) -> bool
         Asked::Removed => kind == 9,
         Asked::Traced(index) => (kind == 7) & (field::b(rec) == index),
         Asked::Recording => (kind == 2) & (mark == 0),
+        Asked::Applying => (kind == 2) | (kind == 7) | has_taken(rec),
     }
 }
 
@@ -215,6 +217,27 @@ fn is_reaching(rec: &[u8], node: NodeId, restated: usize) -> bool
     is_by(rec, node) & (field::kind(rec) == 2) & (restated == 0) & (field::b(rec) <= field::c(rec))
 }
 
+// Whether a node has a part in the split that a record registers, by the first top records: the record is its own, or it
+// has one of the parent that can apply a split. Without a part it owes nothing by that split, and one short chain tells.
+pub fn has_part(
+    log: &[u8],
+    work: &[u64],
+    count: usize,
+    cap: usize,
+    top: usize,
+    node: NodeId,
+    rec: &[u8],
+) -> bool
+    requires { ⌜ Bounds (now log) (now work) count cap × ((top ≤ count) × (length (now rec) ≡ 368)) ⌝ }
+    ensures { λ r. ⌜ (Known cap (hist (now (log .entry)) count) (now (work .entry)) → r ≡ hasPart (now (log .entry)) top (node .0) (decode (now (rec .entry)))) ⌝ }
+{
+    if is_by(rec, node) {
+        return true;
+    }
+    let parent = parent_of(rec);
+    latest_asked(log, work, count, cap, top, 0, node, parent, Asked::Applying) != 0
+}
+
 // Whether a node has applied the split that the record at place t registers by then, or applies it there.
 fn is_applied_first(
     log: &[u8],
@@ -266,6 +289,9 @@ pub fn owes_first(
     requires { ⌜ Bounds (now log) (now work) count cap × ((t ≤ count) × (length (now rec) ≡ 368)) ⌝ }
     ensures { λ r. ⌜ (Known cap (hist (now (log .entry)) count) (now (work .entry)) → r ≡ owesFirst (now (log .entry)) t (node .0) (decode (now (rec .entry)))) ⌝ }
 {
+    if !has_part(log, work, count, cap, t, node, rec) {
+        return false;
+    }
     let last = latest_of(log, work, count, cap, t, node);
     if is_applied_first(log, work, count, cap, t, node, last, rec) {
         return is_voter(rec, server_by(work, cap, last, node));

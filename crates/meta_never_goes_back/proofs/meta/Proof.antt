@@ -8,7 +8,7 @@ kind-requires : tie.Need-kind-requires
 kind-requires c κs = search needs
 
 returns : tie.Need-returns
-returns c = λ i m. meta-other _ _ (c .before .kind .ensures) (c .if1 .taken)
+returns c = λ i m p. meta-other _ _ (c .before .kind .ensures) (c .if1 .taken)
 
 named-requires : tie.Need-named-requires
 named-requires c κs = search needs
@@ -23,10 +23,10 @@ won-requires : tie.Need-won-requires
 won-requires c κs = search needs
 
 returns-2 : tie.Need-returns-2
-returns-2 c = λ i m. meta-named _ _ (c .before .before .before .before .before .kind .ensures) (c .before .before .before .before .if1 .left) (c .before .before .before .named .ensures i) (c .before .descriptor .given .1)
+returns-2 c = λ i m p. meta-named _ _ (c .before .before .before .before .before .kind .ensures) (c .before .before .before .before .if1 .left) (c .before .before .before .named .ensures i) (c .before .descriptor .given .1)
 
 returns-3 : tie.Need-returns-3
-returns-3 c = λ i m. meta-won _ _ (c .before .before .before .before .before .kind .ensures) (c .before .before .before .before .if1 .left) (c .before .before .before .named .ensures i) (c .before .enum-told .given .1) (c .won .ensures m)
+returns-3 c = λ i m p. meta-won _ _ (c .before .before .before .before .before .kind .ensures) (c .before .before .before .before .if1 .left) (c .before .before .before .named .ensures i) (c .before .enum-told .given .1) (c .won .ensures m p)
 
 pub meta-spec : {M : Type 1} → statement M
 meta-spec =

@@ -21,6 +21,12 @@ b-requires c κs = search needs
 enum-told-2 : tie.Need-enum-told-2
 enum-told-2 c = search needs
 
+enum-told-3 : tie.Need-enum-told-3
+enum-told-3 c = search needs
+
+has-taken-requires : tie.Need-has-taken-requires
+has-taken-requires c κs = search needs
+
 returns : tie.Need-returns
 returns c = rw (c .enum-told .given .1, c .before .before .kind .ensures)
 
@@ -29,6 +35,9 @@ returns-2 c = rw (c .before .before .asked .given .1, c .before .before .before 
 
 returns-3 : tie.Need-returns-3
 returns-3 c = rw (c .enum-told2 .given .1, c .before .before .kind .ensures, ← not-not (eqb (c .before .before .before .before .args .mark) 0))
+
+returns-4 : tie.Need-returns-4
+returns-4 c = rw (c .before .enum-told3 .given .1, c .before .before .before .kind .ensures, c .has-taken .ensures)
 
 pub is-asked-spec : {M : Type 1} → statement M
 is-asked-spec =
@@ -39,6 +48,9 @@ is-asked-spec =
     enum-known-asked
     b-requires
     enum-told-2
+    enum-told-3
+    has-taken-requires
     returns
     returns-2
-    returns-3)
+    returns-3
+    returns-4)

@@ -1,0 +1,83 @@
+-- The names are led to by the word before the last one's place; each that is passed over does not oppose.
+use Prim.Native.Nat.{ℕ, _≤_}
+use native.Mathlib.Omega.{arith}
+use borrow.Author.Needs.{needs}
+use borrow.Author.Tests.{not-false}
+use Rattle.record.specs.Records.{decode}
+use Rattle.history.proofs.Logs.{record-length}
+use Rattle.history.specs.Logs.{hist}
+use Rattle.meta_never_goes_back.specs.Index.{MetaIndexed}
+use Rattle.meta_never_goes_back.specs.Walk.{Passed}
+use Rattle.meta_never_goes_back.proofs.Naming.{down}
+use Rattle.meta_never_goes_back.proofs.Spared.{passed-over}
+use Rattle.meta_never_goes_back.proofs.opposed.skip_surpassed.Statement.{statement}
+use Rattle.meta_never_goes_back.proofs.opposed.skip_surpassed.Tie as tie
+
+abbrev Inv-loop : tie.InvT-loop
+Inv-loop log work cap from rec index generation i₀ i = (i ≤ from) × ((n : ℕ) → from ≤ n → n ≤ cap → MetaIndexed cap (hist log n) work → Passed (decode rec) log n from → Passed (decode rec) log n i)
+
+abbrev μ-loop : tie.MeasureT-loop
+μ-loop log work cap from rec index generation i₀ i = i
+
+b-requires : tie.Need-b-requires Inv-loop μ-loop
+b-requires c κs = search needs
+
+d-requires : tie.Need-d-requires Inv-loop μ-loop
+d-requires c κs = search needs
+
+loop-holds : tie.Need-loop-holds Inv-loop μ-loop
+loop-holds c = (omega arith, λ n l k m w. w)
+
+sub-record-at : tie.Need-sub-record-at Inv-loop μ-loop
+sub-record-at c = search needs
+
+record-at-requires : tie.Need-record-at-requires Inv-loop μ-loop
+record-at-requires c κs = omega arith
+
+b-requires-2 : tie.Need-b-requires-2 Inv-loop μ-loop
+b-requires-2 c κs = record-length _ _ (c .record-at .ensures) (omega arith)
+
+d-requires-2 : tie.Need-d-requires-2 Inv-loop μ-loop
+d-requires-2 c κs = record-length _ _ (c .before .record-at .ensures) (omega arith)
+
+is-surpassed-requires : tie.Need-is-surpassed-requires Inv-loop μ-loop
+is-surpassed-requires c κs = search needs
+
+returns : tie.Need-returns Inv-loop μ-loop
+returns c = c .before .before .before .before .before .before .loop .inv
+
+sub-name-before : tie.Need-sub-name-before Inv-loop μ-loop
+sub-name-before c = search needs
+
+name-before-requires : tie.Need-name-before-requires Inv-loop μ-loop
+name-before-requires c κs = omega arith
+
+loop-less : tie.Need-loop-less Inv-loop μ-loop
+loop-less c = omega arith
+
+loop-again : tie.Need-loop-again Inv-loop μ-loop
+loop-again c = (omega arith, λ n l k m w. passed-over (c .before .before .before .before .before .before .before .loop .inv .1 n l k m w) (omega arith) (c .before .before .before .before .before .record-at .ensures) (c .before .before .before .before .before .before .before .before .before .b .ensures) (c .before .before .before .before .before .before .before .before .d .ensures) (c .before .before .before .before .b2 .ensures) (c .before .before .before .d2 .ensures) (c .before .before .is-surpassed .ensures) (not-false _ (c .before .if1 .left)) (down _ _ m (omega arith) k (c .name-before .ensures .1)))
+
+returns-2 : tie.Need-returns-2 Inv-loop μ-loop
+returns-2 c = c .before .loop .inv
+
+pub skip-surpassed-spec : {M : Type 1} → statement M
+skip-surpassed-spec =
+    tie.close
+    (tie.spec
+    Inv-loop
+    μ-loop
+    b-requires
+    d-requires
+    loop-holds
+    sub-record-at
+    record-at-requires
+    b-requires-2
+    d-requires-2
+    is-surpassed-requires
+    returns
+    sub-name-before
+    name-before-requires
+    loop-less
+    loop-again
+    returns-2)
