@@ -13,16 +13,15 @@ use borrow.Author.Tests.{ltb-true, lt-ltb, eqb-true, eqb-false, eq-eqb, ne-eqb, 
 use Rattle.record.specs.Keys.{Key, keyEqb}
 use Rattle.record.specs.Records.{TraceRecord}
 use Rattle.record.proofs.Keys.{listEqb-same}
-use Rattle.rules.specs.declared.Report.{Report}
 use Rattle.rules.specs.declared.Case.{Case}
 use Rattle.rules.specs.declared.Case.the-variants.{Clear, Fault}
-use Rattle.rules.specs.declared.Verdict.{Verdict}
-use Rattle.rules.specs.declared.Verdict.the-variants.{Pass, Faulted}
+use Rattle.rules.specs.declared.Verdict.the-variants.{Pass}
 use Rattle.rules.specs.History.{History, holds, isSome, anyOf, latestOf, firsts}
 use Rattle.rules.specs.Cases.{isFault}
 use Rattle.rules.specs.GenerationsRise.{Write, tellsWrite, sameWrite, writes, isEarlier, opposes, writeFault, generationsAt}
-use Rattle.rules.specs.Reports.{AtRecord, atLast, Arises, atFirst, reportOf}
+use Rattle.rules.specs.Reports.{AtRecord, atLast, Arises, reportOf}
 use Rattle.rules.proofs.Booleans.{and-left, and-right, both, or-cases, or-left, or-right}
+use Rattle.rules.proofs.Reports.{reportOf-pass}
 use Rattle.rules.proofs.Members.{anyOf-mem, anyOf-some, anyOf-none}
 use Rattle.ids_unique.proofs.Firsts.{any-latest}
 use Rattle.rules.proofs.Skips.{anyOf-nil, anyOf-skip, latestOf-nil, latestOf-hit, latestOf-skip, firsts-nil, firsts-hit, firsts-skip, firsts-known}
@@ -33,16 +32,11 @@ pub clash : {A : Type 0} {b : Bool} → b ≡ true → b ≡ false → A
 clash e d = let z : true ≡ false = sym e ∙ d in let y : _≡_ {A = ℕ} 0 1 = cc in absurd (omega arith)
 
 module _ (f : AtRecord) where
-  step : (v : Verdict) (r : Report) (c : Case) (n : ℕ) → r .verdict ≡ v → atFirst v r c n .verdict ≡ Pass → (v ≡ Pass) × (isFault c ≡ false)
-  step Pass r Clear n e d = (refl, refl)
-  step Pass r (Fault k ev) n e d = let y : _≡_ {A = ℕ} 0 1 = cc in absurd (omega arith)
-  step (Faulted k) r c n e d = let y : _≡_ {A = ℕ} 0 1 = cc in absurd (omega arith)
-
   pub none-arose : (h : History) → reportOf (atLast f) h .verdict ≡ Pass → Arises f h → ⊥
-  unfolding reportOf Arises
+  unfolding Arises
   none-arose [] e = λ y. y
   none-arose (x ∷ h) e =
-      let s = step (reportOf (atLast f) h .verdict) (reportOf (atLast f) h) (f x h) _ refl e in
+      let s = reportOf-pass (atLast f) x h e in
       ⊎-elim (λ y. clash y (s .1)) (none-arose h (s .0))
 
 -- ---- the last write of a key

@@ -16,17 +16,15 @@ use Rattle.rules.specs.Cases.{isFault, faultIf, orCase, caseOf}
 use Rattle.rules.specs.Descriptors.{spanOf, firstAtGeneration}
 use Rattle.rules.specs.History.{History, isKind, when, greater, greatestOf}
 use Rattle.rules.specs.MetaNeverGoesBack.{Name, isWon, nameBy, names, covers, standingName, namedFault, nameFault, keyFault, wonFault, metaAt}
-use Rattle.rules.specs.Reports.{atLast, position, atFirst, reportOf}
+use Rattle.rules.specs.Reports.{atLast, reportOf}
 use Rattle.rules.specs.declared.Case.{Case}
 use Rattle.rules.specs.declared.Case.the-variants.{Clear, Fault}
-use Rattle.rules.specs.declared.Report.{Report}
-use Rattle.rules.specs.declared.Verdict.{Verdict}
-use Rattle.rules.specs.declared.Verdict.the-variants.{Pass, Faulted}
+use Rattle.rules.specs.declared.Verdict.the-variants.{Pass}
 use Rattle.rules.proofs.Booleans.{never, and-left, and-right}
 use Rattle.rules.proofs.Members.{Mem, mem-nil, mem-cons}
 use Rattle.rules.proofs.MetaLeast.{FirstFaulty, at, clean, wonFault-right, wonFault-found}
 use Rattle.rules.proofs.Placed.{Answer}
-use Rattle.rules.proofs.Reports.{reportOf-step}
+use Rattle.rules.proofs.Reports.{reportOf-pass}
 use Rattle.rules.proofs.Skips.{told-nil, told-hit, told-skip}
 use Rattle.meta_never_goes_back.specs.Walk.{notLower, contains, coversAll}
 
@@ -107,12 +105,6 @@ module _ (x : TraceRecord) (ns : List Name) (k : Key) where
 
 -- ---- while the report is a pass
 
--- no record of a pass has a fault
-passes : (v : Verdict) (r : Report) (c : Case) (n : ℕ) → r .verdict ≡ v → atFirst v r c n .verdict ≡ Pass → (v ≡ Pass) × (isFault c ≡ false)
-passes Pass r Clear n e d = (refl, refl)
-passes Pass r (Fault kind v) n e d = let z : _≡_ {A = ℕ} 0 1 = cc in absurd (omega arith)
-passes (Faulted kind) r c n e d = let z : _≡_ {A = ℕ} 0 1 = cc in absurd (omega arith)
-
 won-by : (k b : Bool) (c d : Case) → k ≡ true → b ≡ true → isFault (faultIf k (orCase c (faultIf b d))) ≡ false → isFault d ≡ false
 won-by true true Clear d p q e = e
 won-by true true (Fault kind v) d p q e = never refl e
@@ -132,9 +124,7 @@ module _ (x : TraceRecord) (h : History) where
   names-skip e = told-skip (λ (y : TraceRecord) (_ : History). when (isWon y) (nameBy y)) x h (rw e)
 
   pass-step : Passes (x ∷ h) → Passes h × (isFault (metaAt x h) ≡ false)
-  pass-step e =
-      passes (reportOf (atLast metaAt) h .verdict) (reportOf (atLast metaAt) h) (metaAt x h) (position (x ∷ h)) refl
-      (ap (λ (r : Report). r .verdict) (sym (reportOf-step (atLast metaAt) x h)) ∙ e)
+  pass-step e = reportOf-pass (atLast metaAt) x h e
 
   won-clear : isWon x ≡ true → isFault (metaAt x h) ≡ false → isFault (wonFault x (names h)) ≡ false
   unfolding metaAt

@@ -1,6 +1,6 @@
 -- The report of a history is right, each way, for any check; one more record steps it; after a fault it stays.
 use mathlib.Core.Path.{_≡_, refl, sym, ap, _∙_, subst}
-use mathlib.Core.Bool.{true}
+use mathlib.Core.Bool.{true, false}
 use mathlib.Core.List.{List, [], _∷_, _++_}
 use mathlib.Core.Logic.{_⊎_, inl, ⊎-elim}
 use Prim.Native.Nat.{ℕ, _≤_, _<_}
@@ -39,6 +39,11 @@ passed-or n kind e q =
     let z : _≡_ {A = ℕ} 0 1 = cc in
     absurd (omega arith)
 
+pass-by : (v : Verdict) (r : Report) (c : Case) (n : ℕ) → r .verdict ≡ v → atFirst v r c n .verdict ≡ Pass → (v ≡ Pass) × (isFault c ≡ false)
+pass-by Pass r Clear n e d = (refl, refl)
+pass-by Pass r (Fault kind w) n e d = let z : _≡_ {A = ℕ} 0 1 = cc in absurd (omega arith)
+pass-by (Faulted kind) r c n e d = let z : _≡_ {A = ℕ} 0 1 = cc in absurd (omega arith)
+
 module _ (f : History → Case) where
   pub reportOf-none : reportOf f [] ≡ passed
   unfolding reportOf
@@ -59,6 +64,11 @@ module _ (f : History → Case) where
 
   pub reportOf-kept : (x : TraceRecord) (h : History) (kind : ℕ) → reportOf f h .verdict ≡ Faulted kind → reportOf f (x ∷ h) ≡ reportOf f h
   reportOf-kept x h kind v = reportOf-step x h ∙ rw v
+
+  -- a pass says that the report before was one, and that the check is clear now
+  pub reportOf-pass : (x : TraceRecord) (h : History) → reportOf f (x ∷ h) .verdict ≡ Pass → (reportOf f h .verdict ≡ Pass) × (isFault (f (x ∷ h)) ≡ false)
+  reportOf-pass x h e =
+      pass-by (reportOf f h .verdict) (reportOf f h) (f (x ∷ h)) (position (x ∷ h)) refl (ap (λ (r : Report). r .verdict) (sym (reportOf-step x h)) ∙ e)
 
   -- "after a fault the report stays", whatever records follow
   pub reportOf-stays : (more : List TraceRecord) (h : History) (kind : ℕ) → reportOf f h .verdict ≡ Faulted kind
