@@ -201,7 +201,7 @@ equal-ltb {m} {n} e = le-ltb m n (omega arith)
 is-none : (o : Option Entry) (n : Entry) → o ≡ some n → isSome o ≡ false → ⊥
 is-none o n e f = never (ap isSome e) f
 
-some-none : (o : Option Entry) → isSome o ≡ false → o ≡ none
+pub some-none : (o : Option Entry) → isSome o ≡ false → o ≡ none
 some-none none e = refl
 some-none (some v) e = never refl e
 

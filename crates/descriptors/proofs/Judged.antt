@@ -15,10 +15,10 @@ use Rattle.rules.specs.Cases.{fault, faultIf, caseOf}
 use Rattle.rules.specs.Descriptors.{Entry, puts, roleOf, samePlace, agreement, heldBy, heldEqb, entryAt, standing, atIn, aheadFault, differsFault, statementFault, firstAtGenerationIn, firstAtGeneration}
 use Rattle.history.specs.Logs.{bytesAt, recordAt}
 use Rattle.history.proofs.Logs.{record-bytes}
-use Rattle.rules.proofs.Booleans.{and-left, and-right}
+use Rattle.rules.proofs.Booleans.{and-left, and-right, both, none-some}
 use Rattle.descriptors.specs.Index.{putEntry, put}
-use Rattle.descriptors.specs.Answers.{atPlace, greatestUpTo, above, lowestAbove, aheadCase, differsCase}
-use Rattle.descriptors.proofs.Lists.{any-in, lowest-is, any-latest}
+use Rattle.descriptors.specs.Answers.{atPlace, upTo, greatestUpTo, above, lowestAbove, aheadCase, differsCase}
+use Rattle.descriptors.proofs.Lists.{any-in, greatest-is, lowest-is, any-latest}
 use Rattle.descriptors.proofs.Agreement.{agreement-taken}
 use Rattle.descriptors.proofs.Found.{at-up-to}
 use Rattle.descriptors.proofs.Walks.{earliest-some}
@@ -106,6 +106,28 @@ module _ (range generation : ℕ) (vs : List Entry) (f : firstAtGenerationIn ran
 
   pub none-taken : (index : ℕ) → lowestAbove range index false generation vs ≡ none
   none-taken index = taken-go index (lowestAbove range index false generation vs) refl
+
+-- nor a greatest
+module _ (range generation : ℕ) (vs : List Entry) (f : firstAtGenerationIn range generation vs ≡ none) where
+  last-go : (o : Option Entry) → greatestUpTo range true 0 false generation vs ≡ o → o ≡ none
+  unfolding firstAtGenerationIn
+  last-go none e = refl
+  last-go (some z) e =
+      let i = greatest-is (λ v. v .index) (upTo range true 0 false generation) z vs e in
+      let a : eqb (z .range) range && true ≡ true = and-left _ (eqb (z .held .generation) generation) (i .passes) in
+      let t : eqb (z .range) range && eqb (z .held .generation) generation ≡ true =
+      both (and-left (eqb (z .range) range) true a) (and-right (eqb (z .range) range && true) (eqb (z .held .generation) generation) (i .passes)) in
+      let w = earliest-some (λ v. eqb (v .range) range && eqb (v .held .generation) generation) vs
+      (any-in (λ v. eqb (v .range) range && eqb (v .held .generation) generation) (i .there) t) in
+      none-some (sym f ∙ w .1)
+
+  none-last : greatestUpTo range true 0 false generation vs ≡ none
+  none-last = last-go (greatestUpTo range true 0 false generation vs) refl
+
+pub no-last : (log : List ℕ) (n range generation : ℕ) (h : History) → n ≡ 0 → put log n ≡ firstAtGeneration range generation h
+    → put log 0 ≡ greatestUpTo range true 0 false generation (standing h)
+unfolding firstAtGeneration
+no-last log n range generation h z e = sym (none-last range generation (standing h) (put-none log n z e))
 
 pub not-taken : (log : List ℕ) (n : ℕ) (h : History) {ra rd range generation : ℕ} (index : ℕ) → n ≡ 0 → ra ≡ range → rd ≡ generation
     → put log n ≡ firstAtGeneration ra rd h → false ≡ isSome (lowestAbove range index false generation (standing h))

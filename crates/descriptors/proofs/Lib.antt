@@ -4,6 +4,7 @@ pub mod Same
 pub mod Agreement
 pub mod Roles
 pub mod Walks
+pub mod Rising
 pub mod Found
 pub mod Lying
 pub mod Judged

@@ -3,26 +3,28 @@ use mathlib.Core.Path.{_≡_, refl, sym, ap, _∙_}
 use mathlib.Core.Bool.{Bool, true, false, cond, not, _&&_, _||_}
 use mathlib.Core.List.{List, [], _∷_}
 use mathlib.Core.Option.{Option, none, some}
-use mathlib.Core.Logic.{_⊎_, inl, inr, ⊎-elim}
+use mathlib.Core.Logic.{_⊎_, inl, inr}
 use Prim.Native.Nat.{ℕ, suc, _+_, _-_, _*_, _/_, _%_, _≤_, _<_}
 use native.Mathlib.Omega.{arith}
-use lib.Dec.{eqb}
+use lib.Dec.{eqb, leb}
 use lib.ListN.{length, getD}
 use borrow.Author.Tests.{eq-eqb, ne-eqb}
 use Rattle.record.specs.declared.named.Node.{Node}
 use Rattle.record.specs.declared.named.Node.the-variants.{Marked, Missing}
 use Rattle.record.specs.Records.{TraceRecord}
-use Rattle.record.proofs.Keys.{decide, never}
-use Rattle.rules.specs.History.{History, Tells, isKind, isSome, when, orElse, given, anyOf, latestOf, earliestOf, addSome, addFirst, told, firsts}
+use Rattle.record.proofs.Keys.{never}
+use Rattle.rules.specs.History.{History, Tells, isKind, isSome, when, orElse, given, holds, anyOf, latestOf, earliestOf, addSome, addFirst, told, firsts}
 use Rattle.rules.specs.Descriptors.{Entry, Role, puts, states, neither, heldBy, roleOf, entryAt, putBy, statedBy, tellsPut, tellsStated, samePlace, standing, stated, statements, isEmpty, firstAtGenerationIn, firstAtGeneration}
 use Rattle.history.specs.Columns.{Column, cellOf, Chained, clamp, Put}
 use Rattle.history.proofs.Cells.{cell-new, Same, put-apart, column-agrees, column-put, Zeros, column-clear}
 use Rattle.history.proofs.Chains.{clamped, chained-agrees, entered, not-entered, chained-clear}
 use Rattle.descriptors.specs.declared.index.Told.{Told}
 use Rattle.history.specs.Buckets.{bucketBy, bucketByTwo}
-use Rattle.descriptors.specs.Index.{newValue, firstValue, sameGeneration, appliedAt, appliedBucket, standingBucket, statedBucket, generationBucket, countsOf, countsAfter, DescriptorsIndexed, put}
+use Rattle.descriptors.specs.Index.{newValue, firstValue, sameGeneration, appliedAt, appliedBucket, standingBucket, statedBucket, generationBucket, notBelow, isRising, countsOf, countsAfter, DescriptorsIndexed, put}
 use Rattle.descriptors.specs.Noted.{isMarked, markedBucket, EnteredIf, AllEntered, Telling, countsNext, Noted}
+use Rattle.descriptors.specs.Answers.{greatestUpTo}
 use Rattle.descriptors.proofs.Lists.{any-latest}
+use Rattle.descriptors.proofs.Rising.{counts-by, counts-bound, top-reaches}
 use Rattle.descriptors.proofs.Roles.{new-puts, first-new}
 use Rattle.descriptors.proofs.Judged.{put-is-some}
 use Rattle.descriptors.proofs.Agreement.{standing-cons, stated-cons}
@@ -55,13 +57,22 @@ module _ (x : TraceRecord) (h : History) (i : ℕ) (role : roleOf x h ≡ puts i
   unfolding firstValue
   first-no f = rw (new-by, f)
 
+  rising-no : anyOf (samePlace (entryAt i x h)) (standing h) ≡ true → isRising x h ≡ false
+  unfolding isRising
+  rising-no f = rw (new-no f)
+
+  rising-by : anyOf (samePlace (entryAt i x h)) (standing h) ≡ false → isRising x h ≡ not (anyOf (notBelow (entryAt i x h)) (standing h))
+  unfolding isRising
+  rising-by f = rw (new-yes f)
+
   -- a put at a place that is taken
-  pub told-taken : {t : Told} → t ≡ record { puts = true; states = false; stands = false; first = false } → anyOf (samePlace (entryAt i x h)) (standing h) ≡ true → Telling x h t
+  pub told-taken : {t : Told} → t ≡ record { puts = true; states = false; stands = false; first = false; rises = false } → anyOf (samePlace (entryAt i x h)) (standing h) ≡ true → Telling x h t
   told-taken e f = rw e (record {
     puts = sym (ap isSome tells-put);
     states = sym (ap isSome tells-no);
     stands = sym (ap isSome (new-no f));
     first = sym (ap isSome (first-no f));
+    rises = sym (rising-no f);
   })
 
   not-some : (b : Bool) → isSome (cond b none (some (entryAt i x h))) ≡ not b
@@ -69,13 +80,15 @@ module _ (x : TraceRecord) (h : History) (i : ℕ) (role : roleOf x h ≡ puts i
   not-some false = refl
 
   -- and at one that is free
-  pub told-free : {t : Told} {b : Bool} → t ≡ record { puts = true; states = false; stands = true; first = b } → anyOf (samePlace (entryAt i x h)) (standing h) ≡ false
-      → b ≡ not (anyOf (sameGeneration (entryAt i x h)) (standing h)) → Telling x h t
-  told-free e f b = rw e (record {
+  pub told-free : {t : Told} {b r : Bool} → t ≡ record { puts = true; states = false; stands = true; first = b; rises = r }
+      → anyOf (samePlace (entryAt i x h)) (standing h) ≡ false → b ≡ not (anyOf (sameGeneration (entryAt i x h)) (standing h))
+      → r ≡ not (anyOf (notBelow (entryAt i x h)) (standing h)) → Telling x h t
+  told-free e f b r = rw e (record {
     puts = sym (ap isSome tells-put);
     states = sym (ap isSome tells-no);
     stands = sym (ap isSome (new-yes f));
     first = b ∙ sym (ap isSome (first-by f) ∙ not-some (anyOf (sameGeneration (entryAt i x h)) (standing h)));
+    rises = r ∙ sym (rising-by f);
   })
 
 some-go : (b a : Bool) (v : Entry) (o : Option Entry) → a ≡ isSome o → b || a ≡ isSome (orElse o (when b v))
@@ -102,13 +115,20 @@ first-free log m x h i {ra} {rd} a d e =
     rw (a, d) (sym (any-earliest (λ v. eqb (v .range) (x .a) && eqb (v .held .generation) (x .d)) (standing h))) in
     sym (not-not (eqb m 0)) ∙ ap not (put-is-some log m e ∙ q)
 
-pub told-states : (x : TraceRecord) (h : History) (i : ℕ) {t : Told} → roleOf x h ≡ states i → t ≡ record { puts = false; states = true; stands = false; first = false } → Telling x h t
-unfolding newValue firstValue
-told-states x h i role e = rw e (record { puts = rw role; states = rw role; stands = rw role; first = rw role })
+-- whether the greatest of the range is below
+pub top-below : (log : List ℕ) (m : ℕ) (x : TraceRecord) (h : History) (i : ℕ) {ra : ℕ} {r : Bool} → ra ≡ x .a → put log m ≡ greatestUpTo ra true 0 true 0 (standing h)
+    → r ≡ not (holds (λ v. leb i (v .index)) (put log m)) → r ≡ not (anyOf (notBelow (entryAt i x h)) (standing h))
+top-below log m x h i a e q =
+    let w : holds (λ v. leb i (v .index)) (put log m) ≡ anyOf (notBelow (entryAt i x h)) (standing h) = rw (e, a) (top-reaches (entryAt i x h) (standing h)) in
+    q ∙ ap not w
 
-pub told-neither : (x : TraceRecord) (h : History) {t : Told} → roleOf x h ≡ neither → t ≡ record { puts = false; states = false; stands = false; first = false } → Telling x h t
-unfolding newValue firstValue
-told-neither x h role e = rw e (record { puts = rw role; states = rw role; stands = rw role; first = rw role })
+pub told-states : (x : TraceRecord) (h : History) (i : ℕ) {t : Told} → roleOf x h ≡ states i → t ≡ record { puts = false; states = true; stands = false; first = false; rises = false } → Telling x h t
+unfolding newValue firstValue isRising
+told-states x h i role e = rw e (record { puts = rw role; states = rw role; stands = rw role; first = rw role; rises = rw role })
+
+pub told-neither : (x : TraceRecord) (h : History) {t : Told} → roleOf x h ≡ neither → t ≡ record { puts = false; states = false; stands = false; first = false; rises = false } → Telling x h t
+unfolding newValue firstValue isRising
+told-neither x h role e = rw e (record { puts = rw role; states = rw role; stands = rw role; first = rw role; rises = rw role })
 
 -- ---- the buckets of a record, by what it is told to be
 
@@ -165,10 +185,6 @@ module _ (cap : ℕ) (x : TraceRecord) (h : History) where
 
 -- ---- the counts
 
-counts-by : (h : History) → countsOf h ≡ 2 * length (stated h) + cond (eqb (length (standing h)) 0) 0 1
-unfolding countsOf statements isEmpty
-counts-by h = refl
-
 one-go : (L : ℕ) (b : Bool) → 2 * L + 1 ≡ (2 * L + cond b 0 1) / 2 * 2 + 1
 one-go L true = omega arith
 one-go L false = omega arith
@@ -192,35 +208,32 @@ counts-more x h =
     counts-by (x ∷ h) ∙ rw (stated-cons x h, standing-cons x h) (counts-go (roleOf x h) x h (stated h) (standing h))
     ∙ ap (λ (n : ℕ). countsNext n (isSome (tellsPut x h)) (isSome (tellsStated x h))) (sym (counts-by h))
 
-few-go : (o : Option Entry) (ss : List Entry) (n : ℕ) → length ss ≤ n → length (addSome o ss) ≤ suc n
-few-go none ss n l = omega arith
-few-go (some v) ss n l = omega arith
-
-few : (h : History) → length (stated h) ≤ length h
-unfolding stated told
-few [] = omega arith
-few (x ∷ h) = few-go (tellsStated x h) (stated h) (length h) (few h)
-
-counts-bound : (h : History) → countsOf h ≤ 2 * length h + 1
-counts-bound h = ⊎-elim (λ t. go true t) (λ t. go false t) (decide (eqb (length (standing h)) 0))
-  where
-    go : (b : Bool) → eqb (length (standing h)) 0 ≡ b → countsOf h ≤ 2 * length h + 1
-    go true e = rw (counts-by h, e) (omega (arith, few h))
-    go false e = rw (counts-by h, e) (omega (arith, few h))
-
 pub counts-none : (h : History) (n : ℕ) → length h ≡ n → n ≡ 0 → 0 ≡ countsOf h
 unfolding countsOf statements isEmpty stated standing told firsts
 counts-none [] n e z = refl
 counts-none (x ∷ h) n e z = absurd (omega (arith, e))
 
+-- a word without its mark
+word-bound : (c : ℕ) (b : Bool) → c ≤ 8193 → c + cond b 16384 0 ≤ 24577
+word-bound c true l = omega arith
+word-bound c false l = omega arith
+
+word-rest : (c : ℕ) (b : Bool) → c ≤ 8193 → (c + cond b 16384 0) % 16384 ≡ c
+word-rest c true l = omega arith
+word-rest c false l = omega arith
+
 pub counts-some : (cap : ℕ) (work : List ℕ) (h : History) (n : ℕ) {r : ℕ} → length h ≡ n → (n ≡ 0 → ⊥) → n ≤ cap → cap ≤ 4096 → DescriptorsIndexed cap h work
-    → r ≡ clamp (getD work (8 * cap + (n - 1)) 0) 8193 → r ≡ countsOf h
+    → r ≡ clamp (getD work (8 * cap + (n - 1)) 0) 24577 → r % 16384 ≡ countsOf h
 counts-some cap work [] n e z l m k q = absurd (z (omega (arith, e)))
 counts-some cap work (x ∷ h) n e z l m k q =
     let p : length h ≡ n - 1 = omega (arith, e) in
-    q ∙ clamped (getD work (8 * cap + (n - 1)) 0) (countsOf (x ∷ h)) 8193
-    (k .counts .word (n - 1) (omega arith) ∙ ap (cellOf countsAfter (x ∷ h)) (sym p) ∙ cell-new countsAfter x h)
-    (omega (arith, counts-bound (x ∷ h), e))
+    let j : n - 1 < cap = omega arith in
+    let w : countsOf (x ∷ h) ≤ 8193 = omega (arith, counts-bound (x ∷ h), e) in
+    ap (λ (w : ℕ). w % 16384)
+    (q ∙ clamped (getD work (8 * cap + (n - 1)) 0) (countsAfter x h) 24577
+    (k .counts .word (n - 1) j ∙ ap (cellOf countsAfter (x ∷ h)) (sym p) ∙ cell-new countsAfter x h)
+    (word-bound (countsOf (x ∷ h)) (isRising x h) w))
+    ∙ word-rest (countsOf (x ∷ h)) (isRising x h) w
 
 half-go : (L : ℕ) (b : Bool) → (2 * L + cond b 0 1) / 2 ≡ L
 half-go L true = omega arith
@@ -295,7 +308,7 @@ module _ (work work′ w4 : List ℕ) (count cap : ℕ) (x : TraceRecord) (t : T
   put-chain heads links u v c = chained-agrees (put-apart p (λ k w z. omega arith)) (put-apart p (λ k w z. omega arith)) c
 
   module _ (ne : nodes ≡ markedBucket cap x (x .node)) (ae : applied ≡ isMarked (x .node) && (isKind 1 x || isKind 3 x || isKind 4 x))
-      (re : ranges ≡ bucketBy cap (x .a)) (ge : generations ≡ bucketByTwo cap (x .a) (x .d)) (ce : after ≡ countsNext old (t .puts) (t .states))
+      (re : ranges ≡ bucketBy cap (x .a)) (ge : generations ≡ bucketByTwo cap (x .a) (x .d)) (ce : after ≡ countsNext old (t .puts) (t .states) + cond (t .rises) 16384 0)
       (h : History) (n : length h ≡ count) (oe : old ≡ countsOf h) (k : Telling x h t) (d : DescriptorsIndexed cap h work) where
     applied-at : appliedBucket cap x h ≡ when applied nodes
     applied-at = applied-when cap x h ∙ rw (ae, ne)
@@ -309,8 +322,8 @@ module _ (work work′ w4 : List ℕ) (count cap : ℕ) (x : TraceRecord) (t : T
     generation-at : generationBucket cap x h ≡ when (t .first) generations
     generation-at = generation-when cap x h ∙ rw (k .first, ge)
 
-    counts-at : after ≡ countsOf (x ∷ h)
-    counts-at = ce ∙ rw (oe, k .puts, k .states) (sym (counts-more x h))
+    counts-at : after ≡ countsAfter x h
+    counts-at = ce ∙ rw (oe, k .puts, k .states, k .rises) (ap (λ (c : ℕ). c + cond (isRising x h) 16384 0) (sym (counts-more x h)))
 
     by-node : Chained (appliedBucket cap) (0 * cap) (1 * cap) cap (x ∷ h) work′
     by-node =
@@ -357,7 +370,7 @@ module _ (work work′ w4 : List ℕ) (count cap : ℕ) (x : TraceRecord) (t : T
     all = record { applied = by-node; standing = by-range; stated = by-statement; generation = by-generation; counts = by-counts }
 
   pub noted : nodes ≡ markedBucket cap x (x .node) → applied ≡ isMarked (x .node) && (isKind 1 x || isKind 3 x || isKind 4 x)
-      → ranges ≡ bucketBy cap (x .a) → generations ≡ bucketByTwo cap (x .a) (x .d) → after ≡ countsNext old (t .puts) (t .states)
+      → ranges ≡ bucketBy cap (x .a) → generations ≡ bucketByTwo cap (x .a) (x .d) → after ≡ countsNext old (t .puts) (t .states) + cond (t .rises) 16384 0
       → ((h : History) → length h ≡ count → DescriptorsIndexed cap h work → old ≡ countsOf h) → Noted work work′ count cap x t
   noted ne ae re ge ce oe = record { len = size; others = word; indexed = λ h n k d. all ne ae re ge ce h n (oe h n d) k d }
 

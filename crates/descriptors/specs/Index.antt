@@ -1,14 +1,14 @@
 -- What the columns of `Descriptors` hold: chains of the records that tell the applied indexes, put standing values, state
--- values, and put the first value of a generation; and the counts after each record.
-use mathlib.Core.Bool.{Bool, cond, _&&_, _||_}
+-- values, and put the first value of a generation; and a word for each record: the counts after it, and a mark.
+use mathlib.Core.Bool.{Bool, cond, not, _&&_, _||_}
 use mathlib.Core.List.{List, _∷_}
 use mathlib.Core.Option.{Option, none, some}
 use Prim.Native.Nat.{ℕ, zero, suc, _+_, _*_}
-use lib.Dec.{eqb}
+use lib.Dec.{eqb, leb}
 use Rattle.record.specs.declared.named.Node.{Node}
 use Rattle.record.specs.declared.named.Node.the-variants.{Marked, Missing}
 use Rattle.record.specs.Records.{TraceRecord}
-use Rattle.rules.specs.History.{History, Tells, isKind, when, given, anyOf}
+use Rattle.rules.specs.History.{History, Tells, isKind, when, given, holds, anyOf}
 use Rattle.rules.specs.Descriptors.{Entry, heldBy, tellsPut, tellsStated, samePlace, standing, statements, isEmpty}
 use Rattle.history.specs.Logs.{recordAt}
 use Rattle.history.specs.Buckets.{bucketBy, bucketByTwo}
@@ -54,8 +54,17 @@ generationBucket cap x h = given (byGeneration cap) (firstValue x h)
 unfoldable pub countsOf : History → ℕ
 countsOf h = 2 * statements h + cond (isEmpty h) 0 1
 
+-- a value of p's range at an index not below p's
+abbrev pub notBelow : Entry → Entry → Bool
+notBelow p v = eqb (v .range) (p .range) && leb (p .index) (v .index)
+
+-- the record puts a new value, at an index above that of every standing value of its range
+unfoldable pub isRising : TraceRecord → History → Bool
+isRising x h = holds (λ p. not (anyOf (notBelow p) (standing h))) (newValue x h)
+
+-- the word of a record: the counts, which are below 16384, and above them the mark of a value that rises
 abbrev pub countsAfter : TraceRecord → History → ℕ
-countsAfter x h = countsOf (x ∷ h)
+countsAfter x h = countsOf (x ∷ h) + cond (isRising x h) 16384 0
 
 -- the columns of `Descriptors` are what the history says
 pub record DescriptorsIndexed (cap : ℕ) (h : History) (work : List ℕ) : Type 0 where

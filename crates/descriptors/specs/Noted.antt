@@ -12,7 +12,7 @@ use Rattle.rules.specs.Descriptors.{tellsPut, tellsStated}
 use Rattle.history.specs.Columns.{Entered}
 use Rattle.descriptors.specs.declared.index.Told.{Told}
 use Rattle.history.specs.Buckets.{bucketByTwo}
-use Rattle.descriptors.specs.Index.{DescriptorsIndexed, newValue, firstValue}
+use Rattle.descriptors.specs.Index.{DescriptorsIndexed, newValue, firstValue, isRising}
 
 -- a record has a node, and the bucket of its node and range
 abbrev pub isMarked : Node → Bool
@@ -47,6 +47,7 @@ pub record Telling (x : TraceRecord) (h : History) (t : Told) : Type 0 where
   pub states : t .states ≡ isSome (tellsStated x h)
   pub stands : t .stands ≡ isSome (newValue x h)
   pub first : t .first ≡ isSome (firstValue x h)
+  pub rises : t .rises ≡ isRising x h
 
 -- the counts after a record
 abbrev pub countsNext : ℕ → Bool → Bool → ℕ

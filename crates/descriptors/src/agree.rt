@@ -31,7 +31,7 @@ ghost use Rattle.rules.specs.Descriptors.{roleOf, puts, heldBy, standing, state
 ghost use Rattle.history.specs.Logs.{hist};
 ghost use Rattle.history.specs.Bounds.{Bounds};
 ghost use Rattle.descriptors.specs.Index.{DescriptorsIndexed, put, statement, statedIndex};
-ghost use Rattle.descriptors.specs.Answers.{lowestAbove, aheadCase, differsCase, fallsBy, againstBy, becomesFaulty, newCase};
+ghost use Rattle.descriptors.specs.Answers.{greatestUpTo, lowestAbove, aheadCase, differsCase, fallsBy, againstBy, becomesFaulty, newCase};
 ghost use Rattle.descriptors.specs.Agreement.{nextIn, lastIn, newFaulty};
 
 // A fault of a kind with two numbers or three.
@@ -296,13 +296,24 @@ fn new_case(
     differs(log, work, count, cap, rec, s, at)
 }
 
+// The number of the greatest value of a range and generation: a first one is looked for before the walk.
+fn last_of(log: &[u8], work: &[u64], count: usize, cap: usize, range: u64, generation: u64) -> usize
+    requires { ⌜ Bounds (now log) (now work) count cap ⌝ }
+    ensures { λ r. ⌜ (r ≤ count) × (DescriptorsIndexed cap (hist (now (log .entry)) count) (now (work .entry)) → put (now (log .entry)) r ≡ greatestUpTo range true 0 false generation (standing (hist (now (log .entry)) count))) ⌝ }
+{
+    if first_of(log, work, count, cap, range, generation) == 0 {
+        return 0;
+    }
+    greatest(log, work, count, cap, range, true, 0, false, generation)
+}
+
 // The case of a put at an index where no value stood.
 fn put_new(log: &[u8], work: &[u64], count: usize, cap: usize, rec: &[u8], index: u64) -> Case
     requires { ⌜ Bounds (now log) (now work) count cap × (length (now rec) ≡ 368) ⌝ }
     ensures { λ r. ⌜ (DescriptorsIndexed cap (hist (now (log .entry)) count) (now (work .entry)) → roleOf (decode (now (rec .entry))) (hist (now (log .entry)) count) ≡ puts index → anyOf (samePlace (entryAt index (decode (now (rec .entry))) (hist (now (log .entry)) count))) (standing (hist (now (log .entry)) count)) ≡ false → agreement (hist (now (log .entry)) count) ≡ Clear → r ≡ agreement (decode (now (rec .entry)) ∷ hist (now (log .entry)) count)) ⌝ }
 {
     let next = lowest(log, work, count, cap, a(rec), index, true, 0);
-    let last = greatest(log, work, count, cap, a(rec), true, 0, false, d(rec));
+    let last = last_of(log, work, count, cap, a(rec), d(rec));
     let n = first_faulty(log, work, count, cap, rec, index, next, last);
     if n == 0 {
         return Case::Clear;

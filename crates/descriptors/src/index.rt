@@ -3,6 +3,8 @@ use crate::role::Role;
 use crate::role::applies;
 use crate::role::role_of;
 use crate::value::first_of;
+use crate::value::greatest;
+use crate::value::is_below;
 use crate::value::standing_at;
 use history::bucket::bucket_by;
 use history::bucket::bucket_by_two;
@@ -14,7 +16,7 @@ use record::field::kind;
 use record::field::node;
 use record::named::Node;
 ghost use mathlib.Core.Path.{_≡_};
-ghost use mathlib.Core.Bool.{true, false, _&&_, _||_};
+ghost use mathlib.Core.Bool.{true, false, cond, _&&_, _||_};
 ghost use mathlib.Core.List.{_∷_};
 ghost use Prim.Native.Nat.{ℕ, _+_, _*_, _-_, _/_, _%_, _≤_, _<_};
 ghost use lib.ListN.{length, getD};
@@ -26,12 +28,14 @@ ghost use Rattle.history.specs.Bounds.{Bounds};
 ghost use Rattle.descriptors.specs.Index.{DescriptorsIndexed, countsOf};
 ghost use Rattle.descriptors.specs.Noted.{isMarked, markedBucket, EnteredIf, AllEntered, Telling, countsNext, Noted};
 
-// What a new record is to be entered for: it puts, it states, its value stands, it is the first of its generation.
+// What a new record is to be entered for: it puts, it states, its value stands, it is the first of its generation, it is above
+// every standing value of its range.
 pub struct Told {
     pub puts: bool,
     pub states: bool,
     pub stands: bool,
     pub first: bool,
+    pub rises: bool,
 }
 
 // Enters the record at place count into the chain of a bucket, if it belongs there.
@@ -71,7 +75,7 @@ fn tells_applied(rec: &[u8]) -> bool
     is_marked(node(rec)) & applies(kind(rec))
 }
 
-// A put at an index: whether it stands, and whether it is the first of its generation.
+// A put at an index: whether it stands, is the first of its generation, and is above the greatest of its range.
 fn told_put(log: &[u8], work: &[u64], count: usize, cap: usize, rec: &[u8], index: u64) -> Told
     requires { ⌜ Bounds (now log) (now work) count cap × (length (now rec) ≡ 368) ⌝ }
     ensures { λ r. ⌜ (DescriptorsIndexed cap (hist (now (log .entry)) count) (now (work .entry)) → roleOf (decode (now (rec .entry))) (hist (now (log .entry)) count) ≡ puts index → Telling (decode (now (rec .entry))) (hist (now (log .entry)) count) r) ⌝ }
@@ -83,14 +87,18 @@ fn told_put(log: &[u8], work: &[u64], count: usize, cap: usize, rec: &[u8], inde
             states: false,
             stands: false,
             first: false,
+            rises: false,
         };
     }
     let first = first_of(log, work, count, cap, range, d(rec)) == 0;
+    let top = greatest(log, work, count, cap, range, true, 0, true, 0);
+    let rises = is_below(log, top, index);
     Told {
         puts: true,
         states: false,
         stands: true,
         first,
+        rises,
     }
 }
 
@@ -106,30 +114,32 @@ fn told_of(log: &[u8], work: &[u64], count: usize, cap: usize, rec: &[u8]) -> To
             states: true,
             stands: false,
             first: false,
+            rises: false,
         },
         Role::Neither => Told {
             puts: false,
             states: false,
             stands: false,
             first: false,
+            rises: false,
         },
     }
 }
 
-// The counts after the first count records.
+// The counts after the first count records: the word of the latest without its mark.
 fn counts(work: &[u64], count: usize, cap: usize) -> usize
     requires { ⌜ (32 * cap ≤ length (now work)) × ((count ≤ cap) × (cap ≤ 4096)) ⌝ }
-    ensures { λ r. ⌜ (r ≤ 8193) × ((h : History) → length h ≡ count → DescriptorsIndexed cap h (now (work .entry)) → r ≡ countsOf h) ⌝ }
+    ensures { λ r. ⌜ (r < 16384) × ((h : History) → length h ≡ count → DescriptorsIndexed cap h (now (work .entry)) → r ≡ countsOf h) ⌝ }
 {
     if count == 0 {
         return 0;
     }
-    link(work, 8 * cap + (count - 1), 8193)
+    link(work, 8 * cap + (count - 1), 24577) % 16384
 }
 
 fn counts_next(old: usize, puts: bool, states: bool) -> usize
-    requires { ⌜ old ≤ 8193 ⌝ }
-    ensures { λ r. ⌜ (r ≡ countsNext old puts states) × (r ≤ 8195) ⌝ }
+    requires { ⌜ old < 16384 ⌝ }
+    ensures { λ r. ⌜ (r ≡ countsNext old puts states) × (r < 16386) ⌝ }
 {
     if states {
         return old + 2;
@@ -138,6 +148,17 @@ fn counts_next(old: usize, puts: bool, states: bool) -> usize
         return old / 2 * 2 + 1;
     }
     old
+}
+
+// The word of a record: the counts after it, and the mark of a value that rises.
+fn word(counts: usize, rises: bool) -> u64
+    requires { ⌜ counts < 16386 ⌝ }
+    ensures { λ r. ⌜ r ≡ counts + cond rises 16384 0 ⌝ }
+{
+    if rises {
+        return counts as u64 + 16384;
+    }
+    counts as u64
 }
 
 // How many statements there are.
@@ -178,12 +199,13 @@ fn enter_all(
     enter_if(work, 6 * cap, 7 * cap, count, generations, first);
 }
 
-// Enters a record by what it is told to be, and writes the counts after it.
+// Enters a record by what it is told to be, and writes its word.
 fn note_told(work: &mut [u64], count: usize, cap: usize, rec: &[u8], told: Told)
     requires { ⌜ (32 * cap ≤ length (now work)) × ((count < cap) × ((cap ≤ 4096) × (length (now rec) ≡ 368))) ⌝ }
     ensures { λ _. ⌜ Noted (now (work .entry)) (now (work .exit)) count cap (decode (now (rec .entry))) told ⌝ }
 {
     let after = counts_next(counts(work, count, cap), told.puts, told.states);
+    let marked = word(after, told.rises);
     let by_range = bucket_by(cap, a(rec));
     let by_generation = bucket_by_two(cap, a(rec), d(rec));
     enter_all(
@@ -198,7 +220,7 @@ fn note_told(work: &mut [u64], count: usize, cap: usize, rec: &[u8], told: Told)
         by_generation,
         told.first,
     );
-    history::chain::put(work, 8 * cap + count, after as u64);
+    history::chain::put(work, 8 * cap + count, marked);
 }
 
 // Notes a new record: whatever the log and the work area hold, no word outside the crate's own columns changes, and where the

@@ -8,13 +8,13 @@ use record::field::b;
 use record::field::d;
 use rules::Found;
 ghost use mathlib.Core.Path.{_≡_};
-ghost use mathlib.Core.Bool.{_&&_, _||_, cond};
+ghost use mathlib.Core.Bool.{_&&_, _||_, not, cond};
 ghost use mathlib.Core.Option.{some};
 ghost use Prim.Native.Nat.{ℕ, _+_, _*_, _-_, _≤_, _<_};
 ghost use lib.Dec.{eqb, leb, ltb};
-ghost use lib.ListN.{length};
+ghost use lib.ListN.{length, getD};
 ghost use Rattle.record.specs.Records.{decode};
-ghost use Rattle.rules.specs.History.{latestOf};
+ghost use Rattle.rules.specs.History.{latestOf, holds};
 ghost use Rattle.rules.specs.Descriptors.{standing, at, before, firstAtGeneration};
 ghost use Rattle.history.specs.Logs.{recordAt, hist};
 ghost use Rattle.history.proofs.Queries.{greaterOf, lowerOf};
@@ -28,6 +28,34 @@ pub fn index_of(log: &[u8], number: usize) -> u64
     ensures { λ r. ⌜ r ≡ recordAt (now (log .entry)) (number - 1) .b ⌝ }
 {
     b(record_at(log, number - 1))
+}
+
+// Whether a value, given by its number, is below an index; where there is none, so it is.
+pub fn is_below(log: &[u8], number: usize, index: u64) -> bool
+    requires { ⌜ 368 * number ≤ length (now log) ⌝ }
+    ensures { λ r. ⌜ r ≡ not (holds (λ v. leb index (v .index)) (put (now (log .entry)) number)) ⌝ }
+{
+    if number == 0 {
+        return true;
+    }
+    index_of(log, number) < index
+}
+
+// Whether the value of the record at place i is marked: its index is above that of every earlier value of its range.
+fn is_rising(work: &[u64], cap: usize, i: usize) -> bool
+    requires { ⌜ (32 * cap ≤ length (now work)) × ((i < cap) × (cap ≤ 4096)) ⌝ }
+    ensures { λ r. ⌜ r ≡ leb 16384 (getD (now (work .entry)) (8 * cap + i) 0) ⌝ }
+{
+    16384 <= work[8 * cap + i]
+}
+
+// Whether every earlier value of the range than that of the record at place i is known to be below the index.
+fn rest_below(log: &[u8], work: &[u64], cap: usize, i: usize, range: u64, index: u64) -> bool
+    requires { ⌜ (368 * i + 368 ≤ length (now log)) × ((32 * cap ≤ length (now work)) × ((i < cap) × (cap ≤ 4096))) ⌝ }
+    ensures { λ r. ⌜ r ≡ leb 16384 (getD (now (work .entry)) (8 * cap + i) 0) && eqb (recordAt (now (log .entry)) i .a) range && leb (recordAt (now (log .entry)) i .b) index ⌝ }
+{
+    let rec = record_at(log, i);
+    is_rising(work, cap, i) & (a(rec) == range) & (b(rec) <= index)
 }
 
 // Whether the value of a record is of a range, up to an index unless it is free, of a generation unless any will do.
@@ -71,7 +99,8 @@ fn lower(log: &[u8], best: usize, i: usize, passes: bool) -> usize
     best
 }
 
-// The number of the standing value of a range at the greatest index up to the one given, or at all where that is free.
+// The number of the standing value of a range at the greatest index up to the one given, or at all where that is free. Earlier
+// values than a marked one that passes are below it: the walk stops.
 pub fn greatest(
     log: &[u8],
     work: &[u64],
@@ -92,6 +121,9 @@ pub fn greatest(
         i -= 1;
         let passes = is_up_to(record_at(log, i), range, free, index, any, generation);
         best = greater(log, best, i, passes);
+        if passes & is_rising(work, cap, i) {
+            return best;
+        }
         i = link(work, 3 * cap + i, i);
     }
     best
@@ -105,7 +137,8 @@ fn is_above(rec: &[u8], range: u64, index: u64, any: bool, generation: u64) -> b
     (a(rec) == range) & (index < b(rec)) & (any | (d(rec) == generation))
 }
 
-// The number of the standing value of a range at the lowest index above the one given.
+// The number of the standing value of a range at the lowest index above the one given. The walk stops where nothing earlier
+// is above.
 pub fn lowest(
     log: &[u8],
     work: &[u64],
@@ -125,6 +158,9 @@ pub fn lowest(
         i -= 1;
         let passes = is_above(record_at(log, i), range, index, any, generation);
         best = lower(log, best, i, passes);
+        if rest_below(log, work, cap, i, range, index) {
+            return best;
+        }
         i = link(work, 3 * cap + i, i);
     }
     best
@@ -137,7 +173,7 @@ fn is_at(rec: &[u8], range: u64, index: u64) -> bool
     (range == a(rec)) & (index == b(rec))
 }
 
-// The number of the value that stands at an index of a range.
+// The number of the value that stands at an index of a range. The walk stops where everything earlier is below.
 pub fn standing_at(
     log: &[u8],
     work: &[u64],
@@ -154,6 +190,9 @@ pub fn standing_at(
         i -= 1;
         if is_at(record_at(log, i), range, index) {
             return i + 1;
+        }
+        if rest_below(log, work, cap, i, range, index) {
+            return 0;
         }
         i = link(work, 3 * cap + i, i);
     }

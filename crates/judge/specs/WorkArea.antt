@@ -39,7 +39,7 @@ columns cap h =
     -- 6 generationHeads, 7 generationLinks: the first values of a generation, by range and generation
     ∷ latestIn (generationBucket cap) h
     ∷ cellOf (linkOf (generationBucket cap)) h
-    -- 8 counts: of statements, and whether a value stands
+    -- 8 counts: of statements, and whether a value stands; above them the mark of a value above all earlier ones of its range
     ∷ cellOf countsAfter h
     -- `IdsUnique` and `GenerationsRise`
     -- 9 firstHeads, 10 firstLinks: the first grants, by index, and the writes that count, by range and index

@@ -1,4 +1,4 @@
--- The cell of the latest record, which no clamp cuts where the column is right; none before the first.
+-- The word of the latest record without its mark, which no clamp cuts where the column is right; none before the first.
 use native.Mathlib.Omega.{arith}
 use borrow.Author.Needs.{needs}
 use Rattle.descriptors.proofs.Noting.{counts-none, counts-some}
@@ -21,7 +21,7 @@ link-requires : tie.Need-link-requires
 link-requires c κs = search needs
 
 returns-2 : tie.Need-returns-2
-returns-2 c = let a = c .before .before .before .args in (c .link .ensures .0, λ h e k. counts-some (a .cap) (a .work .now) h (a .count) e (c .before .if1 .left) (omega arith) (omega arith) k (c .link .ensures .1))
+returns-2 c = let a = c .before .before .before .args in (omega arith, λ h e k. counts-some (a .cap) (a .work .now) h (a .count) e (c .before .if1 .left) (omega arith) (omega arith) k (c .link .ensures .1))
 
 pub counts-spec : {M : Type 1} → statement M
 counts-spec = tie.close (tie.spec returns mul-link sub-link add-link link-requires returns-2)

@@ -1,11 +1,11 @@
--- A put stands where none stood, and is the first of its generation where none was found.
+-- A put stands where none stood, is the first of its generation where none was found, and rises where the greatest is below.
 use mathlib.Core.Path.{refl}
 use borrow.Author.Needs.{needs}
 use Rattle.record.specs.Records.{decode}
 use Rattle.rules.specs.Descriptors.{standing}
 use Rattle.history.specs.Logs.{hist}
 use Rattle.descriptors.proofs.Judged.{place-is, place-free}
-use Rattle.descriptors.proofs.Noting.{told-taken, told-free, first-free, place-taken}
+use Rattle.descriptors.proofs.Noting.{told-taken, told-free, first-free, top-below, place-taken}
 use Rattle.descriptors.proofs.index.told_put.Statement.{statement}
 use Rattle.descriptors.proofs.index.told_put.Tie as tie
 
@@ -24,12 +24,30 @@ d-requires c κs = search needs
 first-of-requires : tie.Need-first-of-requires
 first-of-requires c κs = search needs
 
+greatest-requires : tie.Need-greatest-requires
+greatest-requires c κs = search needs
+
+is-below-requires : tie.Need-is-below-requires
+is-below-requires c κs = search needs
+
 returns-2 : tie.Need-returns-2
-returns-2 c = let a = c .before .before .before .before .before .before .before .before .args in λ k role.
-    told-free (decode (a .rec .now)) (hist (a .log .now) (a .count)) (a .index) role refl (place-free (a .log .now) (c .before .before .before .standing-at .result) (decode (a .rec .now)) (hist (a .log .now) (a .count)) (a .index) (place-is (decode (a .rec .now)) (hist (a .log .now) (a .count)) (a .index) (standing (hist (a .log .now) (a .count))) (c .before .before .before .before .a .ensures) (c .before .before .before .standing-at .ensures .1 k)) (c .before .before .if1 .left))
-    (first-free (a .log .now) (c .first-of .result) (decode (a .rec .now)) (hist (a .log .now) (a .count)) (a .index) (c .before .before .before .before .a .ensures) (c .before .d .ensures) (c .first-of .ensures .1 k))
+returns-2 c = let a = c .before .before .before .before .before .before .before .before .before .before .args in
+    let ra = c .before .before .before .before .before .before .a .ensures in
+    let n = c .before .before .before .before .before .standing-at in λ k role.
+    told-free (decode (a .rec .now)) (hist (a .log .now) (a .count)) (a .index) role refl
+    (place-free (a .log .now) (n .result) (decode (a .rec .now)) (hist (a .log .now) (a .count)) (a .index) (place-is (decode (a .rec .now)) (hist (a .log .now) (a .count)) (a .index) (standing (hist (a .log .now) (a .count))) ra (n .ensures .1 k)) (c .before .before .before .before .if1 .left))
+    (first-free (a .log .now) (c .before .before .first-of .result) (decode (a .rec .now)) (hist (a .log .now) (a .count)) (a .index) ra (c .before .before .before .d .ensures) (c .before .before .first-of .ensures .1 k))
+    (top-below (a .log .now) (c .before .greatest .result) (decode (a .rec .now)) (hist (a .log .now) (a .count)) (a .index) ra (c .before .greatest .ensures .1 k) (c .is-below .ensures))
 
 pub told-put-spec : {M : Type 1} → statement M
 told-put-spec =
     tie.close
-    (tie.spec a-requires standing-at-requires returns d-requires first-of-requires returns-2)
+    (tie.spec
+    a-requires
+    standing-at-requires
+    returns
+    d-requires
+    first-of-requires
+    greatest-requires
+    is-below-requires
+    returns-2)

@@ -1,4 +1,5 @@
--- A walk along the range's standing values: the best so far, weighed against the greatest of the rest, stays the greatest of all.
+-- A walk along the range's standing values: the best so far, weighed against the greatest of the rest, stays the greatest of all,
+-- and past a marked one that passes the rest is below it.
 use Prim.Native.Nat.{_-_, _≤_}
 use mathlib.Core.Path.{sym}
 use native.Mathlib.Omega.{arith}
@@ -11,6 +12,7 @@ use Rattle.history.specs.Buckets.{bucketBy}
 use Rattle.history.specs.Logs.{hist}
 use Rattle.descriptors.specs.Answers.{upTo, greatestUpTo}
 use Rattle.descriptors.specs.Index.{DescriptorsIndexed, standingBucket}
+use Rattle.descriptors.proofs.Rising.{greatest-stop}
 use Rattle.descriptors.proofs.Walks.{Greatest, greatest-skip, greatest-next, greatest-done, up-to-is, up-to-range}
 use Rattle.descriptors.proofs.value.greatest.Statement.{statement}
 use Rattle.descriptors.proofs.value.greatest.Tie as tie
@@ -60,6 +62,22 @@ is-up-to-requires c κs = record-length (c .before .before .before .before .befo
 greater-requires : tie.Need-greater-requires Inv-loop μ-loop
 greater-requires c κs = search needs
 
+is-rising-requires : tie.Need-is-rising-requires Inv-loop μ-loop
+is-rising-requires c κs = search needs
+
+returns : tie.Need-returns Inv-loop μ-loop
+returns c = let a = c .before .before .before .before .before .before .before .before .before .before .before .args in
+    let l = c .before .before .before .before .before .before .loop in (
+      c .before .before .greater .ensures .1 _ (omega arith) (omega arith),
+      λ k.
+          greatest-stop (a .cap) (a .log .now) (a .work .now) (a .count) (l .i - 1) (omega arith) (omega arith) (omega arith) k (l .inv .1 .1 k .here (omega arith))
+          (a .range) (upTo (a .range) (a .free) (a .index) (a .any) (a .generation)) (l .best) (c .before .before .greater .result) (up-to-range (a .range) (a .free) (a .index) (a .any) (a .generation))
+          (up-to-is (a .log .now) (l .i - 1) (c .before .before .before .before .record-at .ensures) (a .range) (a .free) (a .index) (a .any) (a .generation) (c .before .before .before .is-up-to .ensures))
+          (c .before .is-rising .ensures) (c .if1 .taken) (c .before .before .greater .ensures .0)
+          (greatest-next (a .cap) (a .range) (a .log .now) (upTo (a .range) (a .free) (a .index) (a .any) (a .generation)) (l .best) (c .before .before .greater .result) (l .i) (omega arith) (l .inv .1 .1 k .here (omega arith))
+          (l .inv .1 .1 k .same) (up-to-is (a .log .now) (l .i - 1) (c .before .before .before .before .record-at .ensures) (a .range) (a .free) (a .index) (a .any) (a .generation) (c .before .before .before .is-up-to .ensures)) (c .before .before .greater .ensures .0)),
+    )
+
 mul-link-2 : tie.Need-mul-link-2 Inv-loop μ-loop
 mul-link-2 c = search needs
 
@@ -73,22 +91,22 @@ loop-less : tie.Need-loop-less Inv-loop μ-loop
 loop-less c = search needs
 
 loop-again : tie.Need-loop-again Inv-loop μ-loop
-loop-again c = let a = c .before .before .before .before .before .before .before .before .before .before .args in
-    let l = c .before .before .before .before .before .loop in (
+loop-again c = let a = c .before .before .before .before .before .before .before .before .before .before .before .before .args in
+    let l = c .before .before .before .before .before .before .before .loop in (
       omega (arith, c .link2 .ensures .0),
       (
-        c .before .greater .ensures .1 _ (omega arith) (omega arith),
+        c .before .before .before .greater .ensures .1 _ (omega arith) (omega arith),
         λ k.
-            stands-next (Greatest (a .cap) (a .range) (a .log .now) (upTo (a .range) (a .free) (a .index) (a .any) (a .generation)) (c .before .greater .result)) (greatest-skip (a .cap) (a .range) (a .log .now) (upTo (a .range) (a .free) (a .index) (a .any) (a .generation)) (up-to-range (a .range) (a .free) (a .index) (a .any) (a .generation)) (c .before .greater .result)) (k .standing)
+            stands-next (Greatest (a .cap) (a .range) (a .log .now) (upTo (a .range) (a .free) (a .index) (a .any) (a .generation)) (c .before .before .before .greater .result)) (greatest-skip (a .cap) (a .range) (a .log .now) (upTo (a .range) (a .free) (a .index) (a .any) (a .generation)) (up-to-range (a .range) (a .free) (a .index) (a .any) (a .generation)) (c .before .before .before .greater .result)) (k .standing)
             (omega arith) (omega arith) (l .inv .1 .1 k .here (omega arith))
-            (greatest-next (a .cap) (a .range) (a .log .now) (upTo (a .range) (a .free) (a .index) (a .any) (a .generation)) (l .best) (c .before .greater .result) (l .i) (omega arith) (l .inv .1 .1 k .here (omega arith))
-            (l .inv .1 .1 k .same) (up-to-is (a .log .now) (l .i - 1) (c .before .before .before .record-at .ensures) (a .range) (a .free) (a .index) (a .any) (a .generation) (c .before .before .is-up-to .ensures)) (c .before .greater .ensures .0))
+            (greatest-next (a .cap) (a .range) (a .log .now) (upTo (a .range) (a .free) (a .index) (a .any) (a .generation)) (l .best) (c .before .before .before .greater .result) (l .i) (omega arith) (l .inv .1 .1 k .here (omega arith))
+            (l .inv .1 .1 k .same) (up-to-is (a .log .now) (l .i - 1) (c .before .before .before .before .before .record-at .ensures) (a .range) (a .free) (a .index) (a .any) (a .generation) (c .before .before .before .before .is-up-to .ensures)) (c .before .before .before .greater .ensures .0))
             (omega arith) (c .link2 .ensures .1),
       ),
     )
 
-returns : tie.Need-returns Inv-loop μ-loop
-returns c = let a = c .before .before .before .before .before .before .args in
+returns-2 : tie.Need-returns-2 Inv-loop μ-loop
+returns-2 c = let a = c .before .before .before .before .before .before .args in
     let l = c .before .loop in
     (l .inv .1 .0, λ k. greatest-done (a .cap) (a .range) (a .log .now) (upTo (a .range) (a .free) (a .index) (a .any) (a .generation)) (l .best) (l .i) (omega arith) (l .inv .1 .1 k .same))
 
@@ -107,9 +125,11 @@ greatest-spec =
     record-at-requires
     is-up-to-requires
     greater-requires
+    is-rising-requires
+    returns
     mul-link-2
     add-link-2
     link-requires-2
     loop-less
     loop-again
-    returns)
+    returns-2)

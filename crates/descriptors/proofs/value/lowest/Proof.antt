@@ -1,4 +1,5 @@
--- A walk along the range's standing values: the best so far, weighed against the lowest of the rest, stays the lowest of all.
+-- A walk along the range's standing values: the best so far, weighed against the lowest of the rest, stays the lowest of all,
+-- and past a marked one that is not above the index the rest is below it.
 use Prim.Native.Nat.{_-_, _≤_}
 use mathlib.Core.Path.{sym}
 use native.Mathlib.Omega.{arith}
@@ -11,6 +12,7 @@ use Rattle.history.specs.Buckets.{bucketBy}
 use Rattle.history.specs.Logs.{hist}
 use Rattle.descriptors.specs.Answers.{above, lowestAbove}
 use Rattle.descriptors.specs.Index.{DescriptorsIndexed, standingBucket}
+use Rattle.descriptors.proofs.Rising.{lowest-stop}
 use Rattle.descriptors.proofs.Walks.{Lowest, lowest-skip, lowest-next, lowest-done, above-is, above-range}
 use Rattle.descriptors.proofs.value.lowest.Statement.{statement}
 use Rattle.descriptors.proofs.value.lowest.Tie as tie
@@ -60,6 +62,20 @@ is-above-requires c κs = record-length (c .before .before .before .before .befo
 lower-requires : tie.Need-lower-requires Inv-loop μ-loop
 lower-requires c κs = search needs
 
+rest-below-requires : tie.Need-rest-below-requires Inv-loop μ-loop
+rest-below-requires c κs = search needs
+
+returns : tie.Need-returns Inv-loop μ-loop
+returns c = let a = c .before .before .before .before .before .before .before .before .before .before .before .args in
+    let l = c .before .before .before .before .before .before .loop in (
+      c .before .before .lower .ensures .1 _ (omega arith) (omega arith),
+      λ k.
+          lowest-stop (a .cap) (a .log .now) (a .work .now) (a .count) (l .i - 1) (omega arith) (omega arith) (omega arith) k (l .inv .1 .1 k .here (omega arith))
+          (a .range) (a .index) (c .before .rest-below .ensures) (c .if1 .taken) (a .any) (a .generation) (c .before .before .lower .result)
+          (lowest-next (a .cap) (a .range) (a .log .now) (above (a .range) (a .index) (a .any) (a .generation)) (l .best) (c .before .before .lower .result) (l .i) (omega arith) (l .inv .1 .1 k .here (omega arith))
+          (l .inv .1 .1 k .same) (above-is (a .log .now) (l .i - 1) (c .before .before .before .before .record-at .ensures) (a .range) (a .index) (a .any) (a .generation) (c .before .before .before .is-above .ensures)) (c .before .before .lower .ensures .0)),
+    )
+
 mul-link-2 : tie.Need-mul-link-2 Inv-loop μ-loop
 mul-link-2 c = search needs
 
@@ -73,22 +89,22 @@ loop-less : tie.Need-loop-less Inv-loop μ-loop
 loop-less c = search needs
 
 loop-again : tie.Need-loop-again Inv-loop μ-loop
-loop-again c = let a = c .before .before .before .before .before .before .before .before .before .before .args in
-    let l = c .before .before .before .before .before .loop in (
+loop-again c = let a = c .before .before .before .before .before .before .before .before .before .before .before .before .args in
+    let l = c .before .before .before .before .before .before .before .loop in (
       omega (arith, c .link2 .ensures .0),
       (
-        c .before .lower .ensures .1 _ (omega arith) (omega arith),
+        c .before .before .before .lower .ensures .1 _ (omega arith) (omega arith),
         λ k.
-            stands-next (Lowest (a .cap) (a .range) (a .log .now) (above (a .range) (a .index) (a .any) (a .generation)) (c .before .lower .result)) (lowest-skip (a .cap) (a .range) (a .log .now) (above (a .range) (a .index) (a .any) (a .generation)) (above-range (a .range) (a .index) (a .any) (a .generation)) (c .before .lower .result)) (k .standing)
+            stands-next (Lowest (a .cap) (a .range) (a .log .now) (above (a .range) (a .index) (a .any) (a .generation)) (c .before .before .before .lower .result)) (lowest-skip (a .cap) (a .range) (a .log .now) (above (a .range) (a .index) (a .any) (a .generation)) (above-range (a .range) (a .index) (a .any) (a .generation)) (c .before .before .before .lower .result)) (k .standing)
             (omega arith) (omega arith) (l .inv .1 .1 k .here (omega arith))
-            (lowest-next (a .cap) (a .range) (a .log .now) (above (a .range) (a .index) (a .any) (a .generation)) (l .best) (c .before .lower .result) (l .i) (omega arith) (l .inv .1 .1 k .here (omega arith))
-            (l .inv .1 .1 k .same) (above-is (a .log .now) (l .i - 1) (c .before .before .before .record-at .ensures) (a .range) (a .index) (a .any) (a .generation) (c .before .before .is-above .ensures)) (c .before .lower .ensures .0))
+            (lowest-next (a .cap) (a .range) (a .log .now) (above (a .range) (a .index) (a .any) (a .generation)) (l .best) (c .before .before .before .lower .result) (l .i) (omega arith) (l .inv .1 .1 k .here (omega arith))
+            (l .inv .1 .1 k .same) (above-is (a .log .now) (l .i - 1) (c .before .before .before .before .before .record-at .ensures) (a .range) (a .index) (a .any) (a .generation) (c .before .before .before .before .is-above .ensures)) (c .before .before .before .lower .ensures .0))
             (omega arith) (c .link2 .ensures .1),
       ),
     )
 
-returns : tie.Need-returns Inv-loop μ-loop
-returns c = let a = c .before .before .before .before .before .before .args in
+returns-2 : tie.Need-returns-2 Inv-loop μ-loop
+returns-2 c = let a = c .before .before .before .before .before .before .args in
     let l = c .before .loop in
     (l .inv .1 .0, λ k. lowest-done (a .cap) (a .range) (a .log .now) (above (a .range) (a .index) (a .any) (a .generation)) (l .best) (l .i) (omega arith) (l .inv .1 .1 k .same))
 
@@ -107,9 +123,11 @@ lowest-spec =
     record-at-requires
     is-above-requires
     lower-requires
+    rest-below-requires
+    returns
     mul-link-2
     add-link-2
     link-requires-2
     loop-less
     loop-again
-    returns)
+    returns-2)

@@ -1,4 +1,5 @@
--- A walk along the range's standing values: the first at the place is the value there.
+-- A walk along the range's standing values: the first at the place is the value there, and past a marked one that is not above
+-- it there is none.
 use Prim.Native.Nat.{_-_, _≤_}
 use mathlib.Core.Path.{sym, _∙_, refl}
 use native.Mathlib.Omega.{arith}
@@ -11,6 +12,7 @@ use Rattle.history.specs.Buckets.{bucketBy}
 use Rattle.history.specs.Logs.{hist}
 use Rattle.descriptors.specs.Answers.{atPlace}
 use Rattle.descriptors.specs.Index.{DescriptorsIndexed, standingBucket}
+use Rattle.descriptors.proofs.Rising.{place-stop}
 use Rattle.descriptors.proofs.Walks.{place-skip, place-hit, place-miss, place-end, at-is}
 use Rattle.descriptors.proofs.value.standing_at.Statement.{statement}
 use Rattle.descriptors.proofs.value.standing_at.Tie as tie
@@ -66,6 +68,20 @@ returns c = let a = c .before .before .before .before .before .before .before .b
           (at-is (a .log .now) (l .i - 1) (c .before .before .record-at .ensures) (a .range) (a .index) (c .before .is-at .ensures)) (c .if1 .taken)),
     )
 
+rest-below-requires : tie.Need-rest-below-requires Inv-loop μ-loop
+rest-below-requires c κs = search needs
+
+returns-2 : tie.Need-returns-2 Inv-loop μ-loop
+returns-2 c = let a = c .before .before .before .before .before .before .before .before .before .before .before .args in
+    let l = c .before .before .before .before .before .before .loop in (
+      omega arith,
+      λ k.
+          sym (l .inv .1 k .same ∙ place-miss (a .cap) (a .range) (a .index) (a .log .now) (l .i) (omega arith) (l .inv .1 k .here (omega arith))
+          (at-is (a .log .now) (l .i - 1) (c .before .before .before .before .record-at .ensures) (a .range) (a .index) (c .before .before .before .is-at .ensures)) (c .before .before .if1 .left)
+          ∙ place-stop (a .cap) (a .log .now) (a .work .now) (a .count) (l .i - 1) (omega arith) (omega arith) (omega arith) k (l .inv .1 k .here (omega arith))
+          (a .range) (a .index) (c .before .rest-below .ensures) (c .if2 .taken)),
+    )
+
 mul-link-2 : tie.Need-mul-link-2 Inv-loop μ-loop
 mul-link-2 c = search needs
 
@@ -79,19 +95,19 @@ loop-less : tie.Need-loop-less Inv-loop μ-loop
 loop-less c = search needs
 
 loop-again : tie.Need-loop-again Inv-loop μ-loop
-loop-again c = let a = c .before .before .before .before .before .before .before .before .before .before .args in
-    let l = c .before .before .before .before .before .loop in (
+loop-again c = let a = c .before .before .before .before .before .before .before .before .before .before .before .before .args in
+    let l = c .before .before .before .before .before .before .before .loop in (
       omega (arith, c .link2 .ensures .0),
       λ k.
           stands-next (λ n. latestOf (atPlace (a .range) (a .index)) (standing (hist (a .log .now) n))) (place-skip (a .cap) (a .range) (a .index) (a .log .now)) (k .standing)
           (omega arith) (omega arith) (l .inv .1 k .here (omega arith))
           (l .inv .1 k .same ∙ place-miss (a .cap) (a .range) (a .index) (a .log .now) (l .i) (omega arith) (l .inv .1 k .here (omega arith))
-          (at-is (a .log .now) (l .i - 1) (c .before .before .before .record-at .ensures) (a .range) (a .index) (c .before .before .is-at .ensures)) (c .before .if1 .left))
+          (at-is (a .log .now) (l .i - 1) (c .before .before .before .before .before .record-at .ensures) (a .range) (a .index) (c .before .before .before .before .is-at .ensures)) (c .before .before .before .if1 .left))
           (omega arith) (c .link2 .ensures .1),
     )
 
-returns-2 : tie.Need-returns-2 Inv-loop μ-loop
-returns-2 c = let a = c .before .before .before .before .before .before .args in
+returns-3 : tie.Need-returns-3 Inv-loop μ-loop
+returns-3 c = let a = c .before .before .before .before .before .before .args in
     let l = c .before .loop in (omega arith, λ k. sym (l .inv .1 k .same ∙ place-end (a .cap) (a .range) (a .index) (a .log .now) (l .i) (omega arith)))
 
 pub standing-at-spec : {M : Type 1} → statement M
@@ -110,9 +126,11 @@ standing-at-spec =
     is-at-requires
     add-result
     returns
+    rest-below-requires
+    returns-2
     mul-link-2
     add-link-2
     link-requires-2
     loop-less
     loop-again
-    returns-2)
+    returns-3)
