@@ -2,7 +2,8 @@
 use Prim.Native.Nat.{ℕ}
 
 -- `Descriptors`: the applied indexes by node and range; the standing values by range; the statements by range; the first
--- value of each range and generation; the count of statements, with whether a value stands
+-- value of each range and generation; the count of statements, with whether a value stands,
+-- and a mark of a value that rises above all before it
 abbrev pub appliedHeads : ℕ
 appliedHeads = 0
 
@@ -104,6 +105,6 @@ recordedHeads = 30
 abbrev pub recordedLinks : ℕ
 recordedLinks = 31
 
--- `MetaNeverGoesBack`: the latest name so far
+-- `MetaNeverGoesBack`: the latest name so far, and a mark of a name that surpasses all before it
 abbrev pub latestName : ℕ
 latestName = 27

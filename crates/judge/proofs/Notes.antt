@@ -78,7 +78,7 @@ bounds-kept e b =
 -- ---- the notes, one after the other
 
 module _ {cap n : ℕ} {h : History} {x : TraceRecord} {work₀ work₁ work₂ work₃ work₄ work₅ work₆ : List ℕ} (size : length h ≡ n) (room : n < cap)
-    (f : HalfNoted cap h x work₀ work₁) (m : names.Noted cap n x work₁ work₂) (a : IdsNoted cap h x work₂ work₃)
+    (f : HalfNoted cap h x work₀ work₁) (m : names.Noted cap h x work₁ work₂) (a : IdsNoted cap h x work₂ work₃)
     (g : GenerationsTaken cap h x work₃ work₄) (b : owners.Noted cap h x work₄ work₅) (len : length work₆ ≡ length work₅)
     (others : (j : ℕ) → 9 * cap ≤ j → getD work₆ j 0 ≡ getD work₅ j 0)
     (indexed : DescriptorsIndexed cap h work₅ → DescriptorsIndexed cap (x ∷ h) work₆) where
@@ -99,7 +99,7 @@ module _ {cap n : ℕ} {h : History} {x : TraceRecord} {work₀ work₁ work₂ 
   half-noted i = f .indexed (i .owners) (i .half)
 
   meta-noted : Indexed cap h work₀ → MetaIndexed cap (x ∷ h) work₂
-  meta-noted i = m .indexed h size (meta-kept (record { word = λ j l k. f .names j (omega arith) (omega arith) }) (i .meta))
+  meta-noted i = m .indexed (meta-kept (record { word = λ j l k. f .names j (omega arith) (omega arith) }) (i .meta))
 
   ids-noted : Indexed cap h work₀ → IdsIndexed cap (x ∷ h) work₃
   ids-noted i = a .ids (λ k. firsts-before i) (ids-kept (record { word = λ j l k. before j (omega arith) }) (i .ids))

@@ -79,7 +79,7 @@ columns cap h =
     -- 26 registeredBy: the record that names a registered split's right range, and the latest registering record so far
     ∷ cellOf registeredCell h
     -- `MetaNeverGoesBack`
-    -- 27 latestName: the latest name so far
+    -- 27 latestName: the latest name so far; above it the mark of a name that surpasses all earlier ones
     ∷ cellOf nameAsOf h
     -- the right half's clause
     -- 28 splitHeads, 29 splitLinks: the registered splits, by parent and index

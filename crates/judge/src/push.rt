@@ -34,7 +34,7 @@ fn noted(log: &[u8], work: &mut [u64], count: usize, cap: usize, rec: &[u8])
     ensures { λ _. ⌜ Noted cap (hist (now (log .entry)) count) (decode (now (rec .entry))) (now (work .entry)) (now (work .exit)) ⌝ }
 {
     right_half::note::note(log, work, count, cap, rec);
-    meta_never_goes_back::names::note(work, count, cap, rec);
+    meta_never_goes_back::names::note(log, work, count, cap, rec);
     ids_unique::note::note(log, work, count, cap, rec);
     generations_rise::note::note(log, work, count, cap, rec);
     one_owner_per_key::note::note(log, work, count, cap, rec);

@@ -91,14 +91,14 @@ pub record Turn (log work : List ℕ) (count cap : ℕ) (end cur : List ℕ) (st
   pub mem : Mem (keyIn next) (keyIn end ∷ ends (hist log count))
   pub seen : MetaIndexed cap (hist log count) work → Seen log count (keyIn cur) (nameNo log standing) (keyIn next) i
 
-module _ {log work : List ℕ} {count cap : ℕ} (fits : count ≤ cap) {end cur : List ℕ} where
+module _ {log work : List ℕ} {count cap : ℕ} (fits : count ≤ cap) (small : cap ≤ 4096) {end cur : List ℕ} where
   pub turn-first : {i : ℕ} → Lt (keyIn cur) (keyIn end) → i ≤ count → i ≡ nameBefore cap work count → Turn log work count cap end cur 0 end i
   turn-first l w e = record {
     within = w;
     known = omega arith;
     up = l;
     mem = here;
-    seen = λ c. seen-first (keyIn cur) (keyIn end) (down log count c (omega arith) fits e);
+    seen = λ c. seen-first (keyIn cur) (keyIn end) (down log count c (omega arith) fits small e);
   }
 
   pub turn-more : {standing i standing′ j : ℕ} {next far old : List ℕ} {x y near : Key} → Turn log work count cap end cur standing next i → (i ≡ 0 → ⊥)
@@ -118,5 +118,5 @@ module _ {log work : List ℕ} {count cap : ℕ} (fits : count ≤ cap) {end cur
         known = s .1 count (t .known) l;
         up = g .up (k .up (t .up));
         mem = g .mem (there (rw q′ (end-of log count (i - 1) l))) (k .mem (there (rw p′ (start-of log count (i - 1) l))) (t .mem));
-        seen = λ c. seen-more (t .seen c) (omega arith) (s .0) p′ q′ a z (down log count c (omega arith) fits (f .1));
+        seen = λ c. seen-more (t .seen c) (omega arith) (s .0) p′ q′ a z (down log count c (omega arith) fits small (f .1));
       }

@@ -25,6 +25,7 @@ use Rattle.rules.proofs.Placed.{Answer, placed-mem}
 use Rattle.rules.proofs.Skips.{anyOf-nil, anyOf-skip}
 use Rattle.history.specs.Logs.{bytesAt, recordAt, hist}
 use Rattle.history.proofs.Logs.{record-bytes}
+use Rattle.meta_never_goes_back.specs.Index.{surpasses}
 use Rattle.meta_never_goes_back.specs.Walk.{against, meets, opposes, coversAll, Passed}
 use Rattle.meta_never_goes_back.proofs.Highest.{covered-low, covered-high, covered-clear}
 use Rattle.meta_never_goes_back.proofs.Naming.{Down, names-more, names-end}
@@ -54,10 +55,7 @@ does-meet : (x : TraceRecord) (n : Name) (k : Key) → Le (spanOf 1 x .start) k 
 does-meet x n k a b h = rw (le-lt-lt (covered-low k n h) b .is, le-lt-lt a (covered-high k n h) .is)
 
 -- a name that a new one surpasses does not oppose it
-abbrev surpasses : TraceRecord → Name → Bool
-surpasses x n = ltb (n .index) (x .b) && leb (n .generation) (x .d)
-
-surpassed-clear : (x : TraceRecord) (n : Name) → surpasses x n ≡ true → opposes x n ≡ false
+pub surpassed-clear : (x : TraceRecord) (n : Name) → surpasses x n ≡ true → opposes x n ≡ false
 surpassed-clear x n e =
     let i = ltb-true (n .index) (x .b) (and-left (ltb (n .index) (x .b)) (leb (n .generation) (x .d)) e) in
     let g = leb-true (n .generation) (x .d) (and-right (ltb (n .index) (x .b)) (leb (n .generation) (x .d)) e) in
@@ -92,10 +90,10 @@ module _ {x : TraceRecord} {log : List ℕ} where
     passed-end e = spared x (names (hist log n)) (w .same ∙ ap (anyOf (opposes x)) (names-end log e) ∙ anyOf-nil (opposes x))
 
     module _ (l : 0 < i) {old : List ℕ} (r : old ≡ bytesAt (i - 1) log) where
-      abbrev next : Name
+      abbrev pub next : Name
       next = nameBy (recordAt log (i - 1))
 
-      left : names (hist log i) ≡ next ∷ names (hist log (i - 1))
+      pub left : names (hist log i) ≡ next ∷ names (hist log (i - 1))
       left = names-more log l (w .here l)
 
       tested : (p : Name → Bool) {t b : Bool} → t ≡ p (nameBy (decode old)) → t ≡ b → p next ≡ b
@@ -106,7 +104,7 @@ module _ {x : TraceRecord} {log : List ℕ} where
           → wonFault x (names (hist log n)) ≡ Clear
       passed-covered e q p = covered-clear x (hist log n) p (w .among next (rw left here)) (tested (coversAll x) e q)
 
-      passed-by : {j : ℕ} → opposes x next ≡ false → Down log (i - 1) j → Passed x log n j
+      pub passed-by : {j : ℕ} → opposes x next ≡ false → Down log (i - 1) j → Passed x log n j
       passed-by q d = record {
         here = d .here;
         same = w .same ∙ ap (anyOf (opposes x)) left ∙ anyOf-skip (opposes x) next _ q ∙ ap (anyOf (opposes x)) (d .same);
@@ -116,6 +114,6 @@ module _ {x : TraceRecord} {log : List ℕ} where
       pub passed-miss : {t : Bool} {j : ℕ} → t ≡ opposes x (nameBy (decode old)) → t ≡ false → Down log (i - 1) j → Passed x log n j
       passed-miss e q d = passed-by (tested (opposes x) e q) d
 
-      pub passed-over : {t : Bool} {index generation b d j : ℕ} → index ≡ x .b → generation ≡ x .d → b ≡ decode old .b → d ≡ decode old .d
-          → t ≡ ltb b index && leb d generation → t ≡ true → Down log (i - 1) j → Passed x log n j
-      passed-over p q f g e z d = passed-by (surpassed-clear x next (tested (surpasses x) (e ∙ rw (p, q, f, g)) z)) d
+      pub surpassed-next : {t : Bool} {index generation b d : ℕ} → index ≡ x .b → generation ≡ x .d → b ≡ decode old .b → d ≡ decode old .d
+          → t ≡ ltb b index && leb d generation → {u : Bool} → t ≡ u → surpasses x next ≡ u
+      surpassed-next p q f g e z = tested (surpasses x) (e ∙ rw (p, q, f, g)) z

@@ -14,6 +14,7 @@ use Rattle.rules.specs.MetaNeverGoesBack.{Name, isWon, nameBy, names, covers}
 use Rattle.rules.proofs.Members.{Mem}
 use Rattle.history.specs.Logs.{recordAt, hist}
 use Rattle.history.proofs.Queries.{greatestStep}
+use Rattle.meta_never_goes_back.specs.Index.{unsurpassed}
 
 -- the name that the record of a number gives, none for 0
 abbrev pub nameNo : List ℕ → ℕ → Option Name
@@ -59,3 +60,8 @@ pub record Passed (x : TraceRecord) (log : List ℕ) (n i : ℕ) : Type 0 where
   pub here : 0 < i → isWon (recordAt log (i - 1)) ≡ true
   pub same : anyOf (opposes x) (names (hist log n)) ≡ anyOf (opposes x) (names (hist log i))
   pub among : (o : Name) → Mem o (names (hist log i)) → Mem o (names (hist log n))
+
+-- the scan passes over the names before place from that a new one surpasses: the next is one that it does not, if there is one
+pub record Skipped (x : TraceRecord) (log : List ℕ) (n from i : ℕ) : Type 0 where
+  pub passed : Passed x log n i
+  pub rest : anyOf (unsurpassed x) (names (hist log from)) ≡ ltb 0 i

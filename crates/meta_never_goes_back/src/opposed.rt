@@ -1,6 +1,8 @@
 // The names that can be in conflict with a new one: most records have none, and need no walk. The scan for one is short
 // where a recent name covers the new one.
+use crate::names::is_marked;
 use crate::names::name_before;
+use crate::won::is_won;
 use history::log::record_at;
 use history::span::end_of;
 use history::span::start_of;
@@ -19,8 +21,8 @@ ghost use Rattle.rules.specs.MetaNeverGoesBack.{nameBy, names, wonFault, metaAt
 ghost use Rattle.rules.specs.Reports.{atLast, reportOf};
 ghost use Rattle.history.specs.Bounds.{Bounds};
 ghost use Rattle.history.specs.Logs.{hist};
-ghost use Rattle.meta_never_goes_back.specs.Index.{MetaIndexed};
-ghost use Rattle.meta_never_goes_back.specs.Walk.{meets, opposes, contains, coversAll, Passed};
+ghost use Rattle.meta_never_goes_back.specs.Index.{isHighest, MetaIndexed};
+ghost use Rattle.meta_never_goes_back.specs.Walk.{meets, opposes, contains, coversAll, Passed, Skipped};
 
 // Whether the numbers of an earlier name are against those of a new one.
 fn is_against(index: u64, generation: u64, old_index: u64, old_generation: u64) -> bool
@@ -90,10 +92,10 @@ fn is_surpassed(index: u64, generation: u64, old_index: u64, old_generation: u64
 }
 
 // From a name's number on back, the number of the latest name that a new one does not surpass, 0 where there is none. Most
-// names are passed over here, each by two comparisons.
+// names are passed over here, each by two comparisons, and all those before a marked one at once.
 fn skip_surpassed(log: &[u8], work: &[u64], cap: usize, from: usize, rec: &[u8]) -> usize
     requires { ⌜ (368 * from ≤ length (now log)) × ((32 * cap ≤ length (now work)) × ((from ≤ cap) × ((cap ≤ 4096) × (length (now rec) ≡ 368)))) ⌝ }
-    ensures { λ r. ⌜ (r ≤ from) × ((n : ℕ) → from ≤ n → n ≤ cap → MetaIndexed cap (hist (now (log .entry)) n) (now (work .entry)) → Passed (decode (now (rec .entry))) (now (log .entry)) n from → Passed (decode (now (rec .entry))) (now (log .entry)) n r) ⌝ }
+    ensures { λ r. ⌜ (r ≤ from) × ((n : ℕ) → from ≤ n → n ≤ cap → MetaIndexed cap (hist (now (log .entry)) n) (now (work .entry)) → Passed (decode (now (rec .entry))) (now (log .entry)) n from → Skipped (decode (now (rec .entry))) (now (log .entry)) n from r) ⌝ }
 {
     let index = b(rec);
     let generation = d(rec);
@@ -103,9 +105,23 @@ fn skip_surpassed(log: &[u8], work: &[u64], cap: usize, from: usize, rec: &[u8])
         if !is_surpassed(index, generation, b(old), d(old)) {
             return i;
         }
+        if is_marked(work, cap, i - 1) {
+            return 0;
+        }
         i = name_before(work, cap, i - 1);
     }
     i
+}
+
+// Whether a record names and surpasses every earlier name.
+pub fn is_highest(log: &[u8], work: &[u64], count: usize, cap: usize, rec: &[u8]) -> bool
+    requires { ⌜ Bounds (now log) (now work) count cap × (length (now rec) ≡ 368) ⌝ }
+    ensures { λ r. ⌜ (MetaIndexed cap (hist (now (log .entry)) count) (now (work .entry)) → r ≡ isHighest (decode (now (rec .entry))) (hist (now (log .entry)) count)) ⌝ }
+{
+    if !is_won(rec) {
+        return false;
+    }
+    skip_surpassed(log, work, cap, name_before(work, cap, count), rec) == 0
 }
 
 // Whether there is a name to walk for: false only where, while the report is a pass, no key of a new name is in conflict. The

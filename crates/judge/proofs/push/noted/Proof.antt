@@ -13,7 +13,7 @@ note-requires c κs = search needs
 note-requires-2 : tie.Need-note-requires-2
 note-requires-2 c κs =
     let p = c .before .before .before .before .before .before .before .before .pre in
-    (omega (arith, c .before .before .before .note .ensures .len, p .0 .work-holds), (p .1 .0, (p .0 .small, p .1 .1)))
+    (bounds-kept (c .before .before .before .note .ensures .len) (p .0), p .1)
 
 note-requires-3 : tie.Need-note-requires-3
 note-requires-3 c κs =

@@ -27,7 +27,7 @@ skip-surpassed-requires : tie.Need-skip-surpassed-requires Inv-loop μ-loop
 skip-surpassed-requires c κs = (omega arith, (omega arith, (omega arith, (omega arith, c .before .before .before .before .pre .1))))
 
 loop-holds : tie.Need-loop-holds Inv-loop μ-loop
-loop-holds c = (omega arith, λ m. c .skip-surpassed .ensures .1 _ (omega arith) (omega arith) m (passed-first (down _ _ m (omega arith) (omega arith) (c .before .name-before .ensures .1))))
+loop-holds c = (omega arith, λ m. c .skip-surpassed .ensures .1 _ (omega arith) (omega arith) m (passed-first (down _ _ m (omega arith) (omega arith) (omega arith) (c .before .name-before .ensures .1))) .passed)
 
 sub-record-at : tie.Need-sub-record-at Inv-loop μ-loop
 sub-record-at c = search needs
@@ -60,7 +60,7 @@ loop-less : tie.Need-loop-less Inv-loop μ-loop
 loop-less c = omega arith
 
 loop-again : tie.Need-loop-again Inv-loop μ-loop
-loop-again c = (omega arith, λ m. c .skip-surpassed2 .ensures .1 _ (omega arith) (omega arith) m (passed-miss (c .before .before .before .before .before .before .before .before .loop .inv .1 m) (omega arith) (c .before .before .before .before .before .before .record-at .ensures) (c .before .before .before .before .before .does-oppose .ensures) (c .before .before .before .before .if1 .left) (down _ _ m (omega arith) (omega arith) (c .before .name-before2 .ensures .1))))
+loop-again c = (omega arith, λ m. c .skip-surpassed2 .ensures .1 _ (omega arith) (omega arith) m (passed-miss (c .before .before .before .before .before .before .before .before .loop .inv .1 m) (omega arith) (c .before .before .before .before .before .before .record-at .ensures) (c .before .before .before .before .before .does-oppose .ensures) (c .before .before .before .before .if1 .left) (down _ _ m (omega arith) (omega arith) (omega arith) (c .before .name-before2 .ensures .1))) .passed)
 
 returns-3 : tie.Need-returns-3 Inv-loop μ-loop
 returns-3 c = λ m p f. passed-end (c .before .loop .inv .1 m) (omega arith)

@@ -1,20 +1,21 @@
--- The names are led to by the word before the last one's place; each that is passed over does not oppose.
+-- The names are led to by the word before the last one's place; each that is passed over is surpassed, and past a marked one all
+-- are.
 use Prim.Native.Nat.{ℕ, _≤_}
 use native.Mathlib.Omega.{arith}
 use borrow.Author.Needs.{needs}
-use borrow.Author.Tests.{not-false}
+use borrow.Author.Tests.{not-false, not-true}
 use Rattle.record.specs.Records.{decode}
 use Rattle.history.proofs.Logs.{record-length}
 use Rattle.history.specs.Logs.{hist}
 use Rattle.meta_never_goes_back.specs.Index.{MetaIndexed}
 use Rattle.meta_never_goes_back.specs.Walk.{Passed}
 use Rattle.meta_never_goes_back.proofs.Naming.{down}
-use Rattle.meta_never_goes_back.proofs.Spared.{passed-over}
+use Rattle.meta_never_goes_back.proofs.Surpassed.{Skips, skips-first, skips-end, skips-stop, skips-next, skips-marked}
 use Rattle.meta_never_goes_back.proofs.opposed.skip_surpassed.Statement.{statement}
 use Rattle.meta_never_goes_back.proofs.opposed.skip_surpassed.Tie as tie
 
 abbrev Inv-loop : tie.InvT-loop
-Inv-loop log work cap from rec index generation i₀ i = (i ≤ from) × ((n : ℕ) → from ≤ n → n ≤ cap → MetaIndexed cap (hist log n) work → Passed (decode rec) log n from → Passed (decode rec) log n i)
+Inv-loop log work cap from rec index generation i₀ i = (i ≤ from) × ((n : ℕ) → from ≤ n → n ≤ cap → MetaIndexed cap (hist log n) work → Passed (decode rec) log n from → Skips (decode rec) log n from i)
 
 abbrev μ-loop : tie.MeasureT-loop
 μ-loop log work cap from rec index generation i₀ i = i
@@ -26,7 +27,7 @@ d-requires : tie.Need-d-requires Inv-loop μ-loop
 d-requires c κs = search needs
 
 loop-holds : tie.Need-loop-holds Inv-loop μ-loop
-loop-holds c = (omega arith, λ n l k m w. w)
+loop-holds c = (omega arith, λ n l k m w. skips-first w)
 
 sub-record-at : tie.Need-sub-record-at Inv-loop μ-loop
 sub-record-at c = search needs
@@ -44,7 +45,16 @@ is-surpassed-requires : tie.Need-is-surpassed-requires Inv-loop μ-loop
 is-surpassed-requires c κs = search needs
 
 returns : tie.Need-returns Inv-loop μ-loop
-returns c = c .before .before .before .before .before .before .loop .inv
+returns c = (omega arith, λ n l k m w. skips-stop (c .before .before .before .before .before .before .loop .inv .1 n l k m w) (omega arith) (c .before .before .before .before .record-at .ensures) (c .before .before .before .before .before .before .before .before .b .ensures) (c .before .before .before .before .before .before .before .d .ensures) (c .before .before .before .b2 .ensures) (c .before .before .d2 .ensures) (c .before .is-surpassed .ensures) (not-true _ (c .if1 .taken)))
+
+sub-is-marked : tie.Need-sub-is-marked Inv-loop μ-loop
+sub-is-marked c = search needs
+
+is-marked-requires : tie.Need-is-marked-requires Inv-loop μ-loop
+is-marked-requires c κs = omega arith
+
+returns-2 : tie.Need-returns-2 Inv-loop μ-loop
+returns-2 c = (omega arith, λ n l k m w. skips-marked (c .before .before .before .before .before .before .before .before .loop .inv .1 n l k m w) (omega arith) (c .before .before .before .before .before .before .record-at .ensures) (c .before .before .before .before .before .before .before .before .before .before .b .ensures) (c .before .before .before .before .before .before .before .before .before .d .ensures) (c .before .before .before .before .before .b2 .ensures) (c .before .before .before .before .d2 .ensures) (c .before .before .before .is-surpassed .ensures) (not-false _ (c .before .before .if1 .left)) m (omega arith) k (omega arith) (c .before .is-marked .ensures) (c .if2 .taken))
 
 sub-name-before : tie.Need-sub-name-before Inv-loop μ-loop
 sub-name-before c = search needs
@@ -56,10 +66,10 @@ loop-less : tie.Need-loop-less Inv-loop μ-loop
 loop-less c = omega arith
 
 loop-again : tie.Need-loop-again Inv-loop μ-loop
-loop-again c = (omega arith, λ n l k m w. passed-over (c .before .before .before .before .before .before .before .loop .inv .1 n l k m w) (omega arith) (c .before .before .before .before .before .record-at .ensures) (c .before .before .before .before .before .before .before .before .before .b .ensures) (c .before .before .before .before .before .before .before .before .d .ensures) (c .before .before .before .before .b2 .ensures) (c .before .before .before .d2 .ensures) (c .before .before .is-surpassed .ensures) (not-false _ (c .before .if1 .left)) (down _ _ m (omega arith) k (c .name-before .ensures .1)))
+loop-again c = (omega arith, λ n l k m w. skips-next (c .before .before .before .before .before .before .before .before .before .loop .inv .1 n l k m w) (omega arith) (c .before .before .before .before .before .before .before .record-at .ensures) (c .before .before .before .before .before .before .before .before .before .before .before .b .ensures) (c .before .before .before .before .before .before .before .before .before .before .d .ensures) (c .before .before .before .before .before .before .b2 .ensures) (c .before .before .before .before .before .d2 .ensures) (c .before .before .before .before .is-surpassed .ensures) (not-false _ (c .before .before .before .if1 .left)) (down _ _ m (omega arith) k (omega arith) (c .name-before .ensures .1)))
 
-returns-2 : tie.Need-returns-2 Inv-loop μ-loop
-returns-2 c = c .before .loop .inv
+returns-3 : tie.Need-returns-3 Inv-loop μ-loop
+returns-3 c = (omega arith, λ n l k m w. skips-end (c .before .loop .inv .1 n l k m w) (omega arith))
 
 pub skip-surpassed-spec : {M : Type 1} → statement M
 skip-surpassed-spec =
@@ -76,8 +86,11 @@ skip-surpassed-spec =
     d-requires-2
     is-surpassed-requires
     returns
+    sub-is-marked
+    is-marked-requires
+    returns-2
     sub-name-before
     name-before-requires
     loop-less
     loop-again
-    returns-2)
+    returns-3)

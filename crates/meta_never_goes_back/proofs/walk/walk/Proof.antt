@@ -44,7 +44,7 @@ name-before-requires : tie.Need-name-before-requires Inv-loop μ-loop Inv-walk �
 name-before-requires c κs = search needs
 
 loop-holds : tie.Need-loop-holds Inv-loop μ-loop Inv-walk μ-walk
-loop-holds c = turn-first (omega arith) (record { is = sym (c .before .before .key-less .ensures) ∙ not-false _ (c .before .if1 .left) }) (c .name-before .ensures .0) (c .name-before .ensures .1)
+loop-holds c = turn-first (omega arith) (omega arith) (record { is = sym (c .before .before .key-less .ensures) ∙ not-false _ (c .before .if1 .left) }) (c .name-before .ensures .0) (c .name-before .ensures .1)
 
 case-by-requires : tie.Need-case-by-requires Inv-loop μ-loop Inv-walk μ-walk
 case-by-requires c κs = (omega (arith, c .before .loop .inv .known, c .before .before .before .before .before .before .before .before .before .before .before .pre .0), c .before .before .before .before .before .before .before .before .before .before .before .pre .1)
@@ -80,7 +80,7 @@ loop-less : tie.Need-loop-less Inv-loop μ-loop Inv-walk μ-walk
 loop-less c = omega (arith, c .name-before2 .ensures .0, c .before .before .before .before .before .before .before .if2 .left)
 
 loop-again : tie.Need-loop-again Inv-loop μ-loop Inv-walk μ-walk
-loop-again c = turn-more (omega (arith, c .before .before .before .before .before .before .before .before .before .before .before .before .before .before .before .before .before .before .pre .0)) (c .before .before .before .before .before .before .before .before .loop .inv) (c .before .before .before .before .before .before .before .if2 .left) (c .before .before .before .before .before .before .stands .ensures) (c .before .before .before .before .before .record-at .ensures) (c .before .before .before .before .start-of2 .ensures) (c .before .before .before .nearer .ensures) (c .before .before .end-of2 .ensures) (c .before .nearer2 .ensures) (c .name-before2 .ensures)
+loop-again c = turn-more (omega (arith, c .before .before .before .before .before .before .before .before .before .before .before .before .before .before .before .before .before .before .pre .0)) (omega (arith, c .before .before .before .before .before .before .before .before .before .before .before .before .before .before .before .before .before .before .pre .0)) (c .before .before .before .before .before .before .before .before .loop .inv) (c .before .before .before .before .before .before .before .if2 .left) (c .before .before .before .before .before .before .stands .ensures) (c .before .before .before .before .before .record-at .ensures) (c .before .before .before .before .start-of2 .ensures) (c .before .before .before .nearer .ensures) (c .before .before .end-of2 .ensures) (c .before .nearer2 .ensures) (c .name-before2 .ensures)
 
 walk-less : tie.Need-walk-less Inv-loop μ-loop Inv-walk μ-walk
 walk-less c = above-falls (c .before .before .before .before .loop .inv .up) (c .before .before .before .before .loop .inv .mem)
