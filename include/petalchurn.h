@@ -1,8 +1,12 @@
 /* Petalchurn, a judge of recorded traces: the interface for C, and for any language that can call C.
  *
  * A trace is a run of records of 368 bytes each. A judge takes them one at a time and reports, for eight checks, the first fault
- * or a pass. Every function of the library is proved against its contract (crates/petalchurn/specs); none has a condition on the
- * values that it is given.
+ * or a pass. docs/MANUAL.md says what a record holds and what each check means. Every function of the library is proved against
+ * its contract (crates/petalchurn/specs); none has a condition on the values that it is given.
+ *
+ * Version
+ *   PETALCHURN_VERSION is this header's version, petalchurn_version() that of the library which was linked. The number rises
+ *   whenever a function, a length or a number in this header changes. A host compares the two before its first call.
  *
  * Buffers
  *   The caller owns every buffer. The library allocates nothing, keeps no pointer after a call, and has no state of its own:
@@ -13,26 +17,37 @@
  *   C is the capacity, the most records that the judge takes: 1 to 4096.
  *   A buffer is passed as a pointer and a length: bytes for log, rec and trace, words of 64 bits for the others. A pointer is not
  *   null, also where the length is 0, and is aligned for its elements; a buffer that a call writes overlaps no other of that call.
- *   Calls on different buffers may run at the same time.
- *   If state, log and work do not come from one run of calls, every call is still safe, refusal 5 is still given where the table
- *   says so, and a push still changes no byte of the log but the new record's; what it answers is not promised.
+ *   If state, log and work do not come from one run of calls, every call is still safe. A push then still gives the refusals of
+ *   the table, and one that takes its record still counts it, copies it to its place and changes no other byte of the log; a
+ *   report still is what stands in state, and a look-up is still refused by 5 where the table says so. Nothing is promised of the
+ *   reports and words that such a push writes, nor of what a look-up that is not refused by 5 answers.
+ *
+ * At the same time
+ *   A call touches no memory but the buffers that it is given and its stack, and takes no lock. Two calls may run at the same
+ *   time unless one of them writes a buffer that the other is given too. So on one judge
+ *     petalchurn_report and the look-ups, which only read its three buffers, may run together, each with an out of its own;
+ *     petalchurn_push writes all three and needs them alone; petalchurn_open and petalchurn_trace need alone what they are given.
+ *   Calls on different judges are independent; they may read one record or one trace together.
  *
  * Refusals
- *   A refused call returns a number from this table, else 0. It leaves every buffer as it was, except where petalchurn_open and
- *   petalchurn_trace say otherwise.
+ *   A refused call returns a number from this table, else 0; a look-up has it in its answer. A refused call leaves every buffer
+ *   as it was, except where petalchurn_open and petalchurn_trace say otherwise.
  *     1  a record, or a trace's tail, is not 368 bytes
- *     2  the record's kind is not 1 to 12
- *     3  a value of the record is none of its kind's
- *     4  a place that the record's kind does not use is not zero
- *     5  state is no judge's: not 59 words, a kind above 255, a capacity above 4096, a count above the capacity; or the lengths
- *        of log or work are not those of the capacity
+ *     2  kind not 1 to 12
+ *     3  node mark not 0 or 1; sub-code, flag, voter count or span count not one of the kind's values (0 alone where it has
+ *        none); a counted span's key length above 31
+ *     4  a place that the kind does not use is not zero: also the node without its mark, a parent without the flag, bytes 50 to
+ *        55, voters and spans past their counts, a key's padding, kind 3's end
+ *     5  state is no judge's: not 59 words, a report's kind above 255, a capacity above 4096, a count above the capacity; or log
+ *        is not 368 * capacity bytes, or work not 32 * capacity words
  *     6  the judge has taken as many records as its capacity
  *     7  for no capacity from 1 to 4096 is log 368 * C bytes and work 32 * C words
  *     8  the list for the answer is too short (for petalchurn_open: state is not 59 words)
- *   A push tests 5, 1, 2, 3, 4, 6 in that order; the others test 5, then 8; petalchurn_open and petalchurn_trace test 8 first.
+ *   A push tests 5, 1, 2, 3, 4, 6 in that order. petalchurn_report and the look-ups test 5, then 8. petalchurn_open and
+ *   petalchurn_trace test 8, then 7; petalchurn_trace then pushes.
  *
- * A report is seven words: its kind (0 for a pass), the number of the record that it arose at (from 1), and five evidence
- * numbers, missing ones 0. The eight reports, numbered in printing order:
+ * A report is seven words: its kind, the number of the record that it arose at (from 1), and five evidence numbers, missing ones
+ * 0. A pass is seven zeros. The eight reports, numbered in printing order:
  *     1 agreement  2 overlap  3 install  4 twice  5 half  6 generations  7 ids  8 meta
  *
  * The 59 words of state: capacity, count of the records taken, tenant, then the eight reports, seven words each.
@@ -40,6 +55,8 @@
  * Usage: a judge for up to 96 records
  *     static uint8_t log_[368 * 96];
  *     static uint64_t work[32 * 96], state[PETALCHURN_STATE_WORDS], report[PETALCHURN_REPORT_WORDS];
+ *     if (petalchurn_version() != PETALCHURN_VERSION)
+ *         return 1;
  *     if (petalchurn_open(0, log_, sizeof log_, work, 32 * 96, state, PETALCHURN_STATE_WORDS) != 0)
  *         return 1;
  *     while (next_record(rec))
@@ -59,6 +76,7 @@
 extern "C" {
 #endif
 
+#define PETALCHURN_VERSION 1        /* rises with every change of this interface */
 #define PETALCHURN_RECORD_SIZE 368  /* bytes of a record */
 #define PETALCHURN_WORK_WORDS 32    /* words of the work area for each record of the capacity */
 #define PETALCHURN_CAPACITY 4096    /* the largest capacity */
@@ -72,35 +90,41 @@ typedef struct {
     uint64_t value;
 } petalchurn_answer;
 
+/* The library's version: PETALCHURN_VERSION of the header that it was made with. Never refused. */
+uint64_t petalchurn_version(void);
+
 /* Opens a judge over a log and a work area, whose lengths say its capacity; tenant is the number that names a group's keys.
  * Refusals: 8 (nothing is written), 7.
- * Writes all of state: the opened judge, of count 0 and eight passes; at refusal 7 the judge of capacity 0.
- * Zeroes all of work; at refusal 7 work is as it was. The log is only measured. */
+ * Writes all of state: the opened judge, of count 0 and eight passes; at refusal 7 the same with capacity 0.
+ * Zeroes all of work; at refusal 7 work is as it was. Of the log only the length is looked at. */
 uint64_t petalchurn_open(uint64_t tenant, const uint8_t *log, size_t log_len, uint64_t *work, size_t work_len,
                          uint64_t *state, size_t state_len);
 
 /* Takes one record: judges it, notes it in work, copies it to the log after those taken before, and writes the judge to state.
- * After a fault records are still taken; a check's first fault stays.
+ * After a fault records are still taken; a check's first fault stays. A refused push leaves all three as they were.
  * Refusals: 5, 1, 2, 3, 4, 6. */
 uint64_t petalchurn_push(uint64_t *state, size_t state_len, uint8_t *log, size_t log_len, uint64_t *work, size_t work_len,
                          const uint8_t *rec, size_t rec_len);
 
-/* Writes the report with number k, 1 to 8, to the first seven words of out; the rest of out is left. Any other k is a pass.
+/* Writes the report with number k, 1 to 8, to the first seven words of out; the rest of out is left. Any other k
+ * gives a pass.
  * Refusals: 5 (by the state alone), 8. */
 uint64_t petalchurn_report(const uint64_t *state, size_t state_len, uint64_t k, uint64_t *out, size_t out_len);
 
 /* Judges a whole trace: opens a judge, and pushes the trace's records, of 368 bytes each, up to the first refusal, which it
- * returns; a tail that is shorter is refused with 1. The records before it remain taken: log and work are as the pushes left them.
+ * returns; a tail that is shorter is refused with 1. The records before it remain taken: log and work are as those pushes left
+ * them, and the log's bytes past them as they were.
  * Refusals: 8 (nothing is written), 7 (log and work are as they were), 1, 2, 3, 4, 6.
- * Writes the first 58 words of out and leaves the rest:
+ * Writes the first 58 words of out, at every refusal but 8 too, and leaves the rest:
  *     0        how many records were taken
  *     1        the number of the refused record, from 1; 0 where none was refused or the opening was
  *     2 to 57  the eight reports, seven words each */
 uint64_t petalchurn_trace(uint64_t tenant, uint8_t *log, size_t log_len, uint64_t *work, size_t work_len,
                           const uint8_t *trace, size_t trace_len, uint64_t *out, size_t out_len);
 
-/* The number of the record that put a range's value: at the greatest index below the one given; at the greatest index not above
- * it; and the first value, in time, that was put with a generation. 0 where there is none.
+/* The number of the record that put one of a range's standing values, which are the first put at each index: the value at the
+ * greatest index below the one given; at the greatest index not above it; and of those with a generation the one put first, in
+ * time. 0 where there is none.
  * Refusals: 5. */
 petalchurn_answer petalchurn_before(const uint64_t *state, size_t state_len, const uint8_t *log, size_t log_len,
                                     const uint64_t *work, size_t work_len, uint64_t range, uint64_t index);
@@ -117,7 +141,8 @@ petalchurn_answer petalchurn_is_empty(const uint64_t *state, size_t state_len, c
                                       const uint64_t *work, size_t work_len);
 
 /* Writes the node of each block of ids that contains an id, one word each; or every block, three words each: first, last, node.
- * Both come by first id, then by time. The value is how many there are; the rest of out is left.
+ * Both come by first id, then by time. The value is how many there are, not how many words; the rest of out is left. As many
+ * words as the records taken, or three times as many, are always enough.
  * Refusals: 5, then 8 where out is shorter than the answer. */
 petalchurn_answer petalchurn_holders_of(const uint64_t *state, size_t state_len, const uint8_t *log, size_t log_len,
                                         const uint64_t *work, size_t work_len, uint64_t id, uint64_t *out, size_t out_len);

@@ -1,4 +1,4 @@
-/* A C host: two grants of ids that share an id, pushed one at a time and then judged as one trace. */
+/* A C host: the library's version, then two grants of ids that share an id, pushed one at a time and then judged as one trace. */
 #include <inttypes.h>
 #include <stdio.h>
 #include <string.h>
@@ -48,6 +48,12 @@ int main(void) {
     uint8_t trace[2 * PETALCHURN_RECORD_SIZE];
     uint8_t *second = trace + PETALCHURN_RECORD_SIZE;
     uint64_t report[PETALCHURN_REPORT_WORDS], answer[PETALCHURN_TRACE_WORDS], list[8];
+
+    printf("version %" PRIu64 "\n", petalchurn_version());
+    if (petalchurn_version() != PETALCHURN_VERSION) {
+        printf("the header's is %d\n", PETALCHURN_VERSION);
+        return 1;
+    }
 
     grant(trace, 1, 5, 1, 10, 19);
     grant(second, 2, 6, 1, 19, 30);

@@ -1,4 +1,4 @@
-//! A Rust host: two grants of ids that share an id, pushed one at a time and then judged as one trace.
+//! A Rust host: the library's version, then two grants of ids that share an id, pushed one at a time and then judged as one trace.
 
 /// What a look-up answers: the refusal's number, and the value, 0 where the call is refused.
 #[repr(C)]
@@ -12,6 +12,7 @@ mod library {
     use super::Answer;
 
     extern "C" {
+        pub fn petalchurn_version() -> u64;
         pub fn petalchurn_open(
             tenant: u64,
             log: *const u8,
@@ -73,6 +74,8 @@ mod library {
     }
 }
 
+// The macros of the header.
+const VERSION: u64 = 1;
 const RECORD_SIZE: usize = 368;
 const WORK_WORDS: usize = 32;
 const STATE_WORDS: usize = 59;
@@ -210,6 +213,13 @@ fn print_report(check: &str, report: &[u64]) {
 }
 
 fn main() {
+    let version = unsafe { library::petalchurn_version() };
+    println!("version {version}");
+    if version != VERSION {
+        println!("the header's is {VERSION}");
+        return;
+    }
+
     let first = grant(1, 5, 1, 10, 19);
     let second = grant(2, 6, 1, 19, 30);
 

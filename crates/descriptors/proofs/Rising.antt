@@ -19,7 +19,8 @@ use Rattle.history.specs.Logs.{recordAt, hist}
 use Rattle.history.proofs.Logs.{hist-length}
 use Rattle.history.proofs.Cells.{cell-at}
 use Rattle.history.proofs.Chains.{In}
-use Rattle.history.proofs.Queries.{greaterOf, lowerOf, greater-none, greater-keep, greater-take}
+use Rattle.history.specs.Weighing.{greaterOf, lowerOf}
+use Rattle.history.proofs.Queries.{greater-none, greater-keep, greater-take}
 use Rattle.descriptors.specs.Index.{notBelow, isRising, countsOf, countsAfter, DescriptorsIndexed, standingBucket, putEntry, put}
 use Rattle.descriptors.specs.Answers.{atPlace, greatestUpTo, above}
 use Rattle.descriptors.proofs.Lists.{any-in, any-latest, greatest-is, lowest-is}

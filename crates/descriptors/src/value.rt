@@ -17,7 +17,7 @@ ghost use Rattle.record.specs.Records.{decode};
 ghost use Rattle.rules.specs.History.{latestOf, holds};
 ghost use Rattle.rules.specs.Descriptors.{standing, at, before, firstAtGeneration};
 ghost use Rattle.history.specs.Logs.{recordAt, hist};
-ghost use Rattle.history.proofs.Queries.{greaterOf, lowerOf};
+ghost use Rattle.history.specs.Weighing.{greaterOf, lowerOf};
 ghost use Rattle.history.specs.Bounds.{Bounds};
 ghost use Rattle.descriptors.specs.Index.{DescriptorsIndexed, putEntry, put};
 ghost use Rattle.descriptors.specs.Answers.{foundAt, foundBy, greatestUpTo, above, lowestAbove, atPlace};

@@ -9,6 +9,7 @@ use native.Mathlib.Omega.{arith}
 use lib.Dec.{ltb}
 use borrow.Author.Tests.{ltb-true, ltb-false, lt-ltb, le-ltb}
 use Rattle.rules.proofs.Skips.{anyOf-skip, those-skip, latestOf-skip, earliestOf-skip, greatestOf-skip, lowestOf-skip}
+use Rattle.history.specs.Weighing.{weigh, weighOf, greaterOf, lowerOf, greatestStep, lowestStep}
 use Rattle.rules.specs.History.{when, orElse, anyOf, those, latestOf, earliestOf, greater, greatestOf, lower, lowestOf}
 
 -- a question that only elements that pass can change
@@ -65,15 +66,6 @@ module _ {A : Type 0} (p : A → Bool) where
   unfolding earliestOf
   earliest-turns = record { turn = λ found v xs. earliest-turn (p v) found v (earliestOf p xs) }
 
--- v against the best of the rest, which is older, by any order; and so the best so far, where there is one
-abbrev pub weigh : {A : Type 0} → (A → A → Bool) → A → Option A → Option A
-weigh beats v none = some v
-weigh beats v (some u) = cond (beats v u) (some v) (some u)
-
-abbrev pub weighOf : {A : Type 0} → (A → A → Bool) → Option A → Option A → Option A
-weighOf beats none r = r
-weighOf beats (some v) r = weigh beats v r
-
 -- it does not matter from which end one begins
 module _ {A : Type 0} (beats : A → A → Bool) (over : (w v u : A) → beats v u ≡ true → beats w v ≡ true → beats w u ≡ true)
     (under : (w v u : A) → beats v u ≡ false → beats w v ≡ false → beats w u ≡ false) where
@@ -92,13 +84,6 @@ module _ {A : Type 0} (beats : A → A → Bool) (over : (w v u : A) → beats v
   weigh-assoc none v r = refl
   weigh-assoc (some w) v none = weigh-last w v (beats w v)
   weigh-assoc (some w) v (some u) = weigh-pair w v u (beats v u) (beats w v) refl refl
-
--- the greater, and the lower: of equals the older
-unfoldable pub greaterOf : {A : Type 0} → (A → ℕ) → Option A → Option A → Option A
-greaterOf number best r = weighOf (λ w v. ltb (number v) (number w)) best r
-
-unfoldable pub lowerOf : {A : Type 0} → (A → ℕ) → Option A → Option A → Option A
-lowerOf number best r = weighOf (λ w v. ltb (number w) (number v)) best r
 
 module _ {A : Type 0} (number : A → ℕ) where
   -- at first there is no best
@@ -156,12 +141,6 @@ module _ {A : Type 0} (number : A → ℕ) where
       best v r
 
   -- one that passes is weighed against the best so far
-  abbrev pub greatestStep : (A → Bool) → Option A → A → Option A
-  greatestStep p best v = cond (p v) (greaterOf number best (some v)) best
-
-  abbrev pub lowestStep : (A → Bool) → Option A → A → Option A
-  lowestStep p best v = cond (p v) (lowerOf number best (some v)) best
-
   greatest-turn : (t : Bool) (best : Option A) (v : A) (r : Option A)
       → greaterOf number best (cond t (greater number v r) r) ≡ greaterOf number (cond t (greaterOf number best (some v)) best) r
   greatest-turn true best v r = greater-assoc best v r
@@ -172,11 +151,11 @@ module _ {A : Type 0} (number : A → ℕ) where
   lowest-turn true best v r = lower-assoc best v r
   lowest-turn false best v r = refl
 
-  pub greatest-turns : (p : A → Bool) → Turns (greaterOf number) (greatestStep p) (greatestOf number p)
+  pub greatest-turns : (p : A → Bool) → Turns (greaterOf number) (greatestStep number p) (greatestOf number p)
   unfolding greatestOf
   greatest-turns p = record { turn = λ best v xs. greatest-turn (p v) best v (greatestOf number p xs) }
 
-  pub lowest-turns : (p : A → Bool) → Turns (lowerOf number) (lowestStep p) (lowestOf number p)
+  pub lowest-turns : (p : A → Bool) → Turns (lowerOf number) (lowestStep number p) (lowestOf number p)
   unfolding lowestOf
   lowest-turns p = record { turn = λ best v xs. lowest-turn (p v) best v (lowestOf number p xs) }
 

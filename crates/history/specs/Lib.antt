@@ -4,3 +4,4 @@ pub mod Columns
 pub mod Buckets
 pub mod Places
 pub mod Bounds
+pub mod Weighing

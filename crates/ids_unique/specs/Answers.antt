@@ -34,3 +34,7 @@ tooShort words out = ltb (length out) (length words)
 pub record ListedIn (words out out′ : List ℕ) (n : ℕ) (r : Listed) : Type 0 where
   pub list : out′ ≡ cond (tooShort words out) out (words ++ drop (length words) out)
   pub answer : r ≡ cond (tooShort words out) TooShort (All n)
+
+-- "A refusal returns its number ..; all buffers unchanged", of 8, whatever the work area holds
+abbrev pub ShortKept : List ℕ → List ℕ → Listed → Type 0
+ShortKept out out′ r = r ≡ TooShort → out′ ≡ out

@@ -1,21 +1,26 @@
 -- The second demand: after every list of pushes into a freshly opened judge, refused ones included, the eight reports and every
 -- look-up are those of the rules for the records taken. Assumes nothing.
 use mathlib.Core.Path.{_≡_, sym, ap, _∙_, subst}
-use mathlib.Core.Bool.{Bool, true, cond}
+use mathlib.Core.Bool.{Bool, true, cond, _&&_}
 use mathlib.Core.List.{List, []}
-use Prim.Native.Nat.{ℕ}
-use lib.ListN.{length}
+use Prim.Native.Nat.{ℕ, suc, _-_, _<_}
+use native.Mathlib.Omega.{arith}
+use lib.ListN.{length, getD}
+use lib.Dec.{leb}
+use borrow.Author.Tests.{le-leb}
 use Rattle.rules.specs.History.{History}
+use Rattle.rules.specs.Reports.{passed}
 use Rattle.history.specs.Logs.{hist}
 use Rattle.judge.specs.declared.opening.Opened.{Opened}
 use Rattle.judge.specs.declared.state.Judge.{Judge}
 use Rattle.judge.specs.Openings.{Fits, Opens}
-use Rattle.judge.specs.States.{State, suits, reportsOf}
+use Rattle.judge.specs.States.{State, fitsBy, suits, reportsOf}
 use Rattle.judge.specs.Words.{Indexed}
-use Rattle.judge.specs.Lookups.{lends}
-use Rattle.judge.specs.Lists.{Lists}
-use Rattle.judge.specs.Runs.{After, Run, takenOf, stateOf}
+use Rattle.judge.specs.Answers.{reportNo}
+use Rattle.judge.specs.Lookups.{lends, Answered}
+use Rattle.judge.specs.Runs.{After, Run, takenOf, stateOf, reportAt}
 use Rattle.judge.specs.Demand2.{Demand2}
+use Rattle.judge.proofs.Suiting.{state-suiting, fits-by}
 use Rattle.judge.proofs.Openings.{opened-after}
 use Rattle.judge.proofs.Demand3.{ran}
 
@@ -31,11 +36,25 @@ module _ (h : History) (t : State) (a : After Indexed h t) where
   indexed : Indexed (t .judge .capacity) (hist (t .log) (t .judge .count)) (t .work)
   indexed = subst (λ (g : History). Indexed (t .judge .capacity) g (t .work)) (sym taken) (a .words)
 
+  fitting : fitsBy (t .judge .capacity) (t .judge .count) ≡ true
+  fitting = let u = state-suiting t (a .fits) in fits-by (u .small) (u .within)
+
+  -- the call for a report: its number is one of the eight
+  called : (k : ℕ) → k < 8 → reportNo (t .judge .reports) (suc k) ≡ reportAt k t
+  called k l =
+      let a : leb 1 (suc k) ≡ true = le-leb 1 (suc k) (omega arith) in
+      let b : leb (suc k) 8 ≡ true = le-leb (suc k) 8 (omega arith) in
+      let s : suc k - 1 ≡ k = omega arith in
+      λ i. cond (a i && b i) (getD (t .judge .reports) (s i) passed) passed
+
   pub demand2-of : (tenant : ℕ) → t .judge .tenant ≡ tenant → Demand2 tenant h t
   demand2-of tenant e = record {
     reports = a .reports ∙ ap (λ (n : ℕ). reportsOf n h) e;
-    answers = λ nothing f why back r q. (q .refusal ∙ ap (λ (b : Bool). cond b 0 5) suited, q .answer suited indexed ∙ ap f taken);
-    lists = λ words n out out′ r q. subst (λ (g : History). Lists (words g) (n g) out out′ r) taken (q .lists suited indexed);
+    reported = λ k r l q. (
+      q .refusal ∙ ap (λ (b : Bool). cond b 0 5) fitting,
+      q .report ∙ ap (λ (b : Bool). cond b (reportNo (t .judge .reports) (suc k)) passed) fitting ∙ called k l,
+    );
+    answers = λ q out out′ r l. subst (λ (g : History). Answered q g out out′ r) taken (l .answered suited indexed);
   }
 
 -- THE SECOND DEMAND, of the judge: a list of pushes is any, so that every push of a run is the last of one

@@ -29,6 +29,7 @@ use Rattle.judge.specs.Openings.{Fits, Opens}
 use Rattle.judge.specs.Words.{Indexed}
 use Rattle.judge.specs.States.{State, suits, orFull, pushRefusal, takes, reportsOf}
 use Rattle.judge.specs.Runs.{Indexing, After, Pushed, Run, none, more, tableTakes, takenOf, reportAt, Claim, Arising, Demand3, stateOf}
+use Rattle.judge.proofs.Suiting.{state-suiting}
 use Rattle.judge.proofs.Openings.{opened-after}
 
 -- where the judge suits, a push takes its record exactly where the table says so
@@ -58,14 +59,10 @@ longer cap [] h = record { added = []; is = refl }
 longer cap (bytes ∷ ps) h = longer-by cap ps h bytes (longer cap ps) (tableTakes cap (length h) bytes)
 
 module _ (Indexed : Indexing) where
-  within : (s : State) → suits s ≡ true → s .judge .count ≤ s .judge .capacity
-  unfolding suits
-  within s e = leb-true _ _ (and-right (leb (s .judge .capacity) 4096 && eqb (length (s .log)) (368 * s .judge .capacity) && eqb (length (s .work)) (32 * s .judge .capacity)) (leb (s .judge .count) (s .judge .capacity)) e)
-
   taking : (h : History) (s : State) (bytes : List ℕ) → After Indexed h s → takes s bytes ≡ tableTakes (s .judge .capacity) (length h) bytes
   unfolding pushRefusal suits
   taking h s bytes a =
-      let l : s .judge .count ≤ s .judge .capacity = within s (a .fits) in
+      let l : s .judge .count ≤ s .judge .capacity = state-suiting s (a .fits) .within in
       ap (λ (b : Bool). eqb (cond b (orFull (refusalOf bytes) (s .judge .capacity) (s .judge .count)) 5) 0) (a .fits) ∙ table-by (refusalOf bytes) (s .judge .count) (s .judge .capacity) l (eqb (refusalOf bytes) 0) refl ∙ ap (λ (n : ℕ). tableTakes (s .judge .capacity) n bytes) (a .count)
 
   -- what a push leaves of the state after h
@@ -119,21 +116,24 @@ module _ (Indexed : Indexing) where
       → (h : History) (t : State) → After Indexed h t → t .judge .tenant ≡ tenant → Arising Indexed f k h t
   arising tenant f k at h t a e = claim tenant (atLast f) k at (Arises f) h t a e (arises-right f h)
 
+  -- the seven claims, of the state after h
+  pub demand3-of : (tenant : ℕ) (h : History) (t : State) → After Indexed h t → t .judge .tenant ≡ tenant → Demand3 Indexed tenant h t
+  unfolding reportsOf
+  demand3-of n h t a e = record {
+    agreement = claim n agreement 0 (λ h. refl) (HasWhole agreement) h t a e (agreement-right h);
+    overlap = arising n overlapAt 1 (λ h. refl) h t a e;
+    install = arising n (installAt n) 2 (λ h. refl) h t a e;
+    twice = arising n twiceAt 3 (λ h. refl) h t a e;
+    generations = arising n generationsAt 5 (λ h. refl) h t a e;
+    ids = arising n idsAt 6 (λ h. refl) h t a e;
+    meta = arising n metaAt 7 (λ h. refl) h t a e;
+  }
+
   pub demand3-from : (o t : State) (ps : List (List ℕ)) → After Indexed [] o → Run Indexed o ps t
       → Demand3 Indexed (o .judge .tenant) (takenOf (o .judge .capacity) ps []) t
-  unfolding reportsOf
   demand3-from o t ps a r =
       let w = ran [] a r in
-      let n = o .judge .tenant in
-      record {
-        agreement = claim n agreement 0 (λ h. refl) (HasWhole agreement) _ t (w .after) (w .tenant-is) (agreement-right _);
-        overlap = arising n overlapAt 1 (λ h. refl) _ t (w .after) (w .tenant-is);
-        install = arising n (installAt n) 2 (λ h. refl) _ t (w .after) (w .tenant-is);
-        twice = arising n twiceAt 3 (λ h. refl) _ t (w .after) (w .tenant-is);
-        generations = arising n generationsAt 5 (λ h. refl) _ t (w .after) (w .tenant-is);
-        ids = arising n idsAt 6 (λ h. refl) _ t (w .after) (w .tenant-is);
-        meta = arising n metaAt 7 (λ h. refl) _ t (w .after) (w .tenant-is);
-      }
+      demand3-of (o .judge .tenant) (takenOf (o .judge .capacity) ps []) t (w .after) (w .tenant-is)
 
 -- THE THIRD DEMAND, of the judge: "Demand 3's list starts from what an opening without refusal gave, whatever the log held". One
 -- claim about every list of pushes

@@ -1,79 +1,160 @@
--- A look-up's three ways to answer: refused, of no capacity and so of no records, and by its look-back. Assumes nothing.
-use mathlib.Core.Path.{_≡_, refl, sym, ap, _∙_}
-use mathlib.Core.Bool.{Bool, true, false, cond, _&&_}
-use mathlib.Core.List.{List, []}
-use Prim.Native.Nat.{ℕ, _*_, _≤_}
+-- A look-up's ways to answer: refused, of no capacity and so of no records, too long for the list, and given. Assumes nothing.
+use mathlib.Core.Path.{_≡_, refl, sym, ap, _∙_, subst}
+use mathlib.Core.Bool.{Bool, true, false, cond}
+use mathlib.Core.List.{List, [], _∷_, _++_}
+use mathlib.Core.Logic.{inl, inr, ⊎-elim}
+use Prim.Native.Nat.{ℕ, _≤_}
 use native.Mathlib.Omega.{arith}
-use lib.ListN.{length}
-use lib.Dec.{eqb, leb}
-use borrow.Author.Tests.{eqb-true, leb-true}
+use lib.ListN.{length, drop}
+use borrow.Author.Tests.{le-ltb}
+use types.Run.{OneOf}
+use denote.Enum.Declared.{tagOf}
 use Rattle.record.proofs.Keys.{never}
-use Rattle.rules.specs.declared.Found.the-variants as found
-use Rattle.rules.specs.History.{History, told, firsts, greatestOf, earliestOf}
+use Rattle.rules.specs.History.{History, told, firsts, those, greatestOf, earliestOf}
 use Rattle.rules.specs.Descriptors.{standing, stated, beforeIn, atIn, firstAtGenerationIn, before, at, firstAtGeneration, statements, isEmpty}
-use Rattle.rules.proofs.Booleans.{and-left, and-right}
-use Rattle.history.specs.Bounds.{Bounds}
+use Rattle.rules.specs.IdsUnique.{firstGrants, blocksOf, inOrder, blocks, holdersOf}
 use Rattle.history.specs.Logs.{hist}
 use Rattle.history.proofs.Logs.{hist-none}
-use Rattle.descriptors.specs.Answers.{foundBy}
+use Rattle.ids_unique.specs.declared.list.Listed.{Listed}
+use Rattle.ids_unique.specs.declared.list.Listed.the-variants.{All, TooShort}
+use Rattle.ids_unique.specs.Answers.{tooShort, ListedIn, blockWords, holderWords}
+use Rattle.judge.specs.declared.lookup.Looked.{Looked}
+use Rattle.judge.specs.declared.lookup.Question.{Question}
+use Rattle.judge.specs.declared.lookup.Question.the-variants.{Before, At, FirstAtGeneration, Statements, IsEmpty, HoldersOf, Blocks}
 use Rattle.judge.specs.declared.state.Judge.{Judge}
-use Rattle.judge.specs.declared.state.Refusal.the-variants.{Nothing, Judge as Unfit}
+use Rattle.judge.specs.declared.state.Refusal.the-variants.{Nothing, Judge as Unfit, Output}
 use Rattle.judge.specs.Words.{Indexed}
-use Rattle.judge.specs.Lookups.{lends, Answered}
+use Rattle.judge.specs.Lookups.{valueOf, wordsOf, ListedBy, lends, Answered, Short, LookedBy}
+use Rattle.judge.proofs.lookup.Question as QuestionT
+use Rattle.judge.proofs.Suiting.{Suiting, suiting}
 
--- what the lengths are where nothing is refused
-module _ (j : Judge) (log work : List ℕ) (e : lends j log work ≡ true) where
-  pub within : j .count ≤ j .capacity
-  within = leb-true _ _ (and-right (leb (j .capacity) 4096 && eqb (length log) (368 * j .capacity) && eqb (length work) (32 * j .capacity)) (leb (j .count) (j .capacity)) e)
+-- no words are written of no records
+pub none-words : (q : Question) → wordsOf q [] ≡ []
+unfolding blockWords holderWords holdersOf blocks inOrder blocksOf firstGrants firsts those
+none-words (Before range index) = refl
+none-words (At range index) = refl
+none-words (FirstAtGeneration range generation) = refl
+none-words Statements = refl
+none-words IsEmpty = refl
+none-words (HoldersOf id) = refl
+none-words Blocks = refl
 
-  front : leb (j .capacity) 4096 && eqb (length log) (368 * j .capacity) && eqb (length work) (32 * j .capacity) ≡ true
-  front = and-left (leb (j .capacity) 4096 && eqb (length log) (368 * j .capacity) && eqb (length work) (32 * j .capacity)) (leb (j .count) (j .capacity)) e
-
-  pub words : length work ≡ 32 * j .capacity
-  words = eqb-true _ _ (and-right (leb (j .capacity) 4096 && eqb (length log) (368 * j .capacity)) (eqb (length work) (32 * j .capacity)) front)
-
-  bytes : (j .capacity ≤ 4096) × (length log ≡ 368 * j .capacity)
-  bytes =
-      let q = and-left (leb (j .capacity) 4096 && eqb (length log) (368 * j .capacity)) (eqb (length work) (32 * j .capacity)) front in
-      (leb-true _ _ (and-left (leb (j .capacity) 4096) (eqb (length log) (368 * j .capacity)) q), eqb-true _ _ (and-right (leb (j .capacity) 4096) (eqb (length log) (368 * j .capacity)) q))
-
-  pub lent : (j .capacity ≡ 0 → ⊥) → Bounds log work (j .count) (j .capacity)
-  lent n =
-      let a = within in let b = words in let c = bytes in
-      record { log-holds = omega (arith, c .1); work-holds = omega arith; within = a; positive = omega arith; small = c .0 }
-
-module _ {A : Type 0} (nothing : A) (f : History → A) (j : Judge) (log work : List ℕ) where
-  pub answer-refused : lends j log work ≡ false → Answered nothing f j log work Unfit j nothing
-  answer-refused e = record { refusal = ap (λ (b : Bool). cond b 0 5) (sym e); judge = refl; refused = λ q. refl; answer = λ q i. never q e }
-
-  pub answer-found : {r : A} → lends j log work ≡ true → (Indexed (j .capacity) (hist log (j .count)) work → r ≡ f (hist log (j .count)))
-      → Answered nothing f j log work Nothing j r
-  answer-found e g = record { refusal = ap (λ (b : Bool). cond b 0 5) (sym e); judge = refl; refused = λ q. never e q; answer = λ q. g }
-
-  -- of no capacity there are no records
-  pub answer-none : lends j log work ≡ true → j .capacity ≡ 0 → f [] ≡ nothing → Answered nothing f j log work Nothing j nothing
-  answer-none e z n =
-      let l = within j log work e in
-      let k : j .count ≡ 0 = omega arith in
-      answer-found e (λ i. sym (ap f (ap (hist log) k ∙ hist-none log) ∙ n))
-
--- nothing is found among no records
-pub before-none : (range index : ℕ) → foundBy (before range index []) ≡ found.Nothing
-unfolding before beforeIn standing firsts greatestOf
-before-none range index = refl
-
-pub at-none : (range index : ℕ) → foundBy (at range index []) ≡ found.Nothing
-unfolding at atIn standing firsts greatestOf
-at-none range index = refl
-
-pub generation-none : (range generation : ℕ) → foundBy (firstAtGeneration range generation []) ≡ found.Nothing
-unfolding firstAtGeneration firstAtGenerationIn standing firsts earliestOf
-generation-none range generation = refl
-
-pub statements-none : statements [] ≡ 0
-unfolding statements stated told
-statements-none = refl
-
-pub empty-none : isEmpty [] ≡ true
+empty-none : valueOf IsEmpty [] ≡ 1
 unfolding isEmpty standing firsts
 empty-none = refl
+
+-- the answer of no records: `IsEmpty` holds, and every other is 0
+pub none-empty : (q : Question) → q ≡ IsEmpty → 1 ≡ valueOf q []
+none-empty q e = sym (ap (λ (p : Question). valueOf p []) e ∙ empty-none)
+
+not-empty : OneOf (0 ∷ 1 ∷ 2 ∷ 3 ∷ 5 ∷ 6 ∷ []) 4 → ⊥
+not-empty = ⊎-elim (λ e. omega arith) (⊎-elim (λ e. omega arith) (⊎-elim (λ e. omega arith) (⊎-elim (λ e. omega arith) (⊎-elim (λ e. omega arith) (λ e. omega arith)))))
+
+pub none-others : (q : Question) → OneOf (0 ∷ 1 ∷ 2 ∷ 3 ∷ 5 ∷ 6 ∷ []) (tagOf QuestionT.the-type q) → 0 ≡ valueOf q []
+unfolding before beforeIn at atIn firstAtGeneration firstAtGenerationIn statements stated told standing firsts greatestOf earliestOf holdersOf blocks inOrder blocksOf firstGrants those
+none-others (Before range index) k = refl
+none-others (At range index) k = refl
+none-others (FirstAtGeneration range generation) k = refl
+none-others Statements k = refl
+none-others IsEmpty k = absurd (not-empty k)
+none-others (HoldersOf id) k = refl
+none-others Blocks k = refl
+
+-- a list is never too short for no words
+pub none-fit : (out : List ℕ) → tooShort [] out ≡ false
+none-fit out = le-ltb (length out) 0 (omega arith)
+
+short-by : (t : Bool) (k : ℕ) → TooShort ≡ cond t TooShort (All k) → t ≡ true
+short-by true k e = refl
+short-by false k e = absurd (let z : _≡_ {A = ℕ} 0 1 = cc in omega arith)
+
+all-by : (t : Bool) (k m : ℕ) → All m ≡ cond t TooShort (All k) → (t ≡ false) × (m ≡ k)
+all-by true k m e = absurd (let z : _≡_ {A = ℕ} 0 1 = cc in omega arith)
+all-by false k m e = (refl, cc)
+
+-- an answer without words
+listed-value : {words out : List ℕ} {n : ℕ} {l : Listed} → words ≡ [] → l ≡ All n → ListedIn words out out n l
+listed-value {words} {out} {n} {l} w e =
+    let t : tooShort words out ≡ false = ap (λ (ws : List ℕ). tooShort ws out) w ∙ none-fit out in
+    record {
+      list = sym (ap (λ (b : Bool). cond b out (words ++ drop (length words) out)) t ∙ ap (λ (ws : List ℕ). ws ++ drop (length ws) out) w);
+      answer = e ∙ sym (ap (λ (b : Bool). cond b TooShort (All n)) t);
+    }
+
+-- a question by one that it is
+pub listed-as : {q p : Question} {cap n : ℕ} {log work out out′ : List ℕ} {l : Listed} → q ≡ p → (l ≡ TooShort → out′ ≡ out)
+    → (Indexed cap (hist log n) work → ListedIn (wordsOf p (hist log n)) out out′ (valueOf p (hist log n)) l)
+    → ListedBy q cap log work n out out′ l
+listed-as {cap = cap} {n = n} {log = log} {work = work} {out = out} {out′ = out′} {l = l} e s g =
+    subst (λ (p : Question). ListedBy p cap log work n out out′ l) (sym e) (record { short = s; listed = g })
+
+pub valued-as : {q p : Question} {cap n v : ℕ} {log work : List ℕ} → q ≡ p → (out : List ℕ) → ((h : History) → wordsOf p h ≡ [])
+    → (Indexed cap (hist log n) work → v ≡ valueOf p (hist log n)) → ListedBy q cap log work n out out (All v)
+valued-as {n = n} {log = log} e out w g =
+    listed-as e (λ s. refl) (λ i. listed-value (w (hist log n)) (ap All (g i)))
+
+-- the judge that a test hands back is the one given
+pub lends-by : (j : Judge) (log work : List ℕ) {i : Judge} {holds b : Bool} → holds ≡ lends j log work → i ≡ j → holds ≡ b → lends i log work ≡ b
+lends-by j log work h e g = ap (λ (k : Judge). lends k log work) e ∙ sym h ∙ g
+
+pub looked-as : {q : Question} {i j : Judge} {log work out out′ : List ℕ} {r : Looked} → i ≡ j → LookedBy q i log work out out′ r
+    → LookedBy q j log work out out′ r
+looked-as {q = q} {log = log} {work = work} {out = out} {out′ = out′} {r = r} e l = subst (λ (k : Judge). LookedBy q k log work out out′ r) e l
+
+module _ (q : Question) (j : Judge) (log work out : List ℕ) where
+  abbrev taken : History
+  taken = hist log (j .count)
+
+  pub looked-refused : {v : ℕ} → lends j log work ≡ false → v ≡ valueOf q []
+      → LookedBy q j log work out out (record { refusal = Unfit; judge = j; value = v })
+  looked-refused e v = record { judge = refl; refused = λ x. (refl, v, refl); lent = λ x. never x e; answered = λ x i. never x e }
+
+  -- of no capacity there are no records
+  pub looked-none : {v : ℕ} → lends j log work ≡ true → j .capacity ≡ 0 → v ≡ valueOf q []
+      → LookedBy q j log work out out (record { refusal = Nothing; judge = j; value = v })
+  looked-none {v} e z a =
+      let s : Suiting (j .capacity) (j .count) (length log) (length work) = suiting e in
+      let l : j .count ≤ j .capacity = s .within in
+      let k : j .count ≡ 0 = omega arith in
+      let h : taken ≡ [] = ap (hist log) k ∙ hist-none log in
+      let t : tooShort (wordsOf q []) out ≡ false = ap (λ (ws : List ℕ). tooShort ws out) (none-words q) ∙ none-fit out in
+      let none : Answered q [] out out (record { refusal = Nothing; judge = j; value = v }) = record {
+        refusal = ap (λ (b : Bool). cond b 8 0) (sym t);
+        value = a ∙ ap (λ (b : Bool). cond b 0 (valueOf q [])) (sym t);
+        list = sym (ap (λ (b : Bool). cond b out (wordsOf q [] ++ drop (length (wordsOf q [])) out)) t ∙ ap (λ (ws : List ℕ). ws ++ drop (length ws) out) (none-words q));
+      } in
+      record {
+        judge = refl;
+        refused = λ x. never e x;
+        lent = λ x. inl refl;
+        answered = λ x i. subst (λ (g : History). Answered q g out out (record { refusal = Nothing; judge = j; value = v })) (sym h) none;
+      }
+
+  module _ {out′ : List ℕ} {l : Listed} (e : lends j log work ≡ true) (g : ListedBy q (j .capacity) log work (j .count) out out′ l) where
+    pub looked-short : l ≡ TooShort → LookedBy q j log work out out′ (record { refusal = Output; judge = j; value = 0 })
+    looked-short s = record {
+      judge = refl;
+      refused = λ x. never e x;
+      lent = λ x. inr (record { refusal = refl; value = refl; list = g .short s });
+      answered = λ x i.
+          let t : tooShort (wordsOf q taken) out ≡ true = short-by _ (valueOf q taken) (sym s ∙ g .listed i .answer) in
+          record {
+            refusal = ap (λ (b : Bool). cond b 8 0) (sym t);
+            value = ap (λ (b : Bool). cond b 0 (valueOf q taken)) (sym t);
+            list = g .listed i .list;
+          };
+    }
+
+    pub looked-given : {k : ℕ} → l ≡ All k → LookedBy q j log work out out′ (record { refusal = Nothing; judge = j; value = k })
+    looked-given {k} s = record {
+      judge = refl;
+      refused = λ x. never e x;
+      lent = λ x. inl refl;
+      answered = λ x i.
+          let t = all-by (tooShort (wordsOf q taken) out) (valueOf q taken) k (sym s ∙ g .listed i .answer) in
+          record {
+            refusal = ap (λ (b : Bool). cond b 8 0) (sym (t .0));
+            value = t .1 ∙ ap (λ (b : Bool). cond b 0 (valueOf q taken)) (sym (t .0));
+            list = g .listed i .list;
+          };
+    }

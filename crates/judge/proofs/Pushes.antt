@@ -1,20 +1,19 @@
 -- What a push that is not refused leaves: judged, noted and appended, the state after the records taken is the state after one
 -- more. Assumes nothing.
 use mathlib.Core.Path.{_≡_, refl, sym, ap, _∙_, subst}
-use mathlib.Core.Bool.{Bool, true, false, cond, _&&_}
+use mathlib.Core.Bool.{Bool, true, false, cond}
 use mathlib.Core.List.{List, _∷_}
 use Prim.Native.Nat.{ℕ, suc, _+_, _*_, _≤_, _<_}
 use native.Mathlib.Omega.{arith}
 use lib.ListN.{length}
-use lib.Dec.{eqb, leb}
-use borrow.Author.Tests.{eqb-true, eqb-false, eq-eqb, leb-true, le-leb}
+use lib.Dec.{eqb}
+use borrow.Author.Tests.{eqb-true, eqb-false}
 use Rattle.record.specs.Form.{refusalOf}
 use Rattle.record.specs.Records.{decode}
 use Rattle.record.proofs.Keys.{never}
 use Rattle.record.proofs.Sound.{wrong-size}
 use native.Mathlib.Decide.{ℕ-discrete}
 use Rattle.rules.specs.History.{History}
-use Rattle.rules.proofs.Booleans.{and-left, and-right}
 use Rattle.history.specs.Bounds.{Bounds}
 use Rattle.history.specs.Logs.{hist, Appended}
 use Rattle.history.proofs.Logs.{appended-hist}
@@ -23,14 +22,13 @@ use Rattle.judge.specs.States.{State, suitsBy, orFull, suits, pushRefusa
 use Rattle.judge.specs.Words.{Indexed, Noted}
 use Rattle.judge.specs.Steps.{Judged}
 use Rattle.judge.specs.Runs.{After, Taken, Pushed, stateOf}
+use Rattle.judge.proofs.Suiting.{Suiting, suiting, suits-by, bounded}
 
 -- ---- no refusal
 
 -- the numbers and lengths where nothing is refused
 pub record Ready (j : Judge) (log work bytes : List ℕ) : Type 0 where
-  pub small : j .capacity ≤ 4096
-  pub logs : length log ≡ 368 * j .capacity
-  pub words : length work ≡ 32 * j .capacity
+  pub suits : Suiting (j .capacity) (j .count) (length log) (length work)
   pub room : j .count < j .capacity
   pub size : length bytes ≡ 368
 
@@ -53,41 +51,28 @@ pub ready : (j : Judge) (log work bytes : List ℕ) → pushRefusal (stateOf j l
 unfolding pushRefusal
 ready j log work bytes z =
     let cap = j .capacity in
-    let a = leb cap 4096 in
-    let b = eqb (length log) (368 * cap) in
-    let c = eqb (length work) (32 * cap) in
-    let d = leb (j .count) cap in
-    let s = suits-zero (a && b && c && d) (orFull (refusalOf bytes) cap (j .count)) z in
+    let s = suits-zero (suitsBy cap (j .count) (length log) (length work)) (orFull (refusalOf bytes) cap (j .count)) z in
     let f = full-zero (refusalOf bytes) (eqb (j .count) cap) (eqb (refusalOf bytes) 0) refl (s .1) in
-    let abc = and-left (a && b && c) d (s .0) in
-    let ab = and-left (a && b) c abc in
-    let l : j .count ≤ cap = leb-true _ _ (and-right (a && b && c) d (s .0)) in
+    let u = suiting (s .0) in
+    let l : j .count ≤ cap = u .within in
     let n : j .count ≡ cap → ⊥ = eqb-false _ _ (f .1) in
-    record {
-      small = leb-true _ _ (and-left a b ab);
-      logs = eqb-true _ _ (and-right a b ab);
-      words = eqb-true _ _ (and-right (a && b) c abc);
-      room = omega arith;
-      size = sized bytes (f .0);
-    }
+    record { suits = u; room = omega arith; size = sized bytes (f .0) }
 
 pub bounds : {j : Judge} {log work bytes : List ℕ} → Ready j log work bytes → Bounds log work (j .count) (j .capacity)
-bounds {j} r =
-    let a = r .small in let b = r .logs in let c = r .words in let d = r .room in
-    record { log-holds = omega arith; work-holds = omega arith; within = omega arith; positive = omega arith; small = a }
+bounds {j} r = let d = r .room in bounded (r .suits) (λ z. omega arith)
 
 -- ---- what is left
-
-pub suiting : (cap count logs words : ℕ) → cap ≤ 4096 → logs ≡ 368 * cap → words ≡ 32 * cap → count ≤ cap → suitsBy cap count logs words ≡ true
-suiting cap count logs words a b c d = simp (le-leb _ _ a, eq-eqb _ _ b, eq-eqb _ _ c, le-leb _ _ d)
 
 module _ {j r : Judge} {log work bytes log′ work′ : List ℕ} (y : Ready j log work bytes) (g : Judged j log work bytes r)
     (w : Noted (j .capacity) (hist log (j .count)) (decode bytes) work work′) (p : Appended log log′ (j .count) bytes) where
   fits-more : suits (stateOf r log′ work′) ≡ true
   unfolding suits
   fits-more =
-      let a = y .small in let b = y .logs in let c = y .words in let d = y .room in let e = g .capacity in let n = g .count in let l = p .len in let m = w .len in
-      suiting (r .capacity) (r .count) (length log′) (length work′) (omega arith) (omega arith) (omega arith) (omega arith)
+      let u = y .suits in
+      let a = u .small in let b = u .log in let c = u .work in
+      let d = y .room in let e = g .capacity in let n = g .count in let l = p .len in let m = w .len in
+      suits-by {capacity = r .capacity} {count = r .count} {logs = length log′} {words = length work′}
+      (record { small = omega arith; within = omega arith; log = omega arith; work = omega arith })
 
   after-more : (h : History) → After Indexed h (stateOf j log work) → After Indexed (decode bytes ∷ h) (stateOf r log′ work′)
   after-more h a =

@@ -10,17 +10,13 @@ use Rattle.judge.specs.States.{State, suits}
 use Rattle.judge.specs.Words.{Indexed}
 use Rattle.judge.specs.WorkArea.{workOf}
 use Rattle.judge.specs.Runs.{After, Run, takenOf}
-use Rattle.judge.proofs.Lookups.{words}
+use Rattle.judge.proofs.Suiting.{state-suiting}
 use Rattle.judge.proofs.WorkArea.{words-are}
 use Rattle.judge.proofs.Demand3.{ran}
 
-length-work-of : (s : State) → suits s ≡ true → length (s .work) ≡ 32 * s .judge .capacity
-unfolding suits
-length-work-of s e = words (s .judge) (s .log) (s .work) e
-
 -- in a state after the records of h every word is what the function says
 pub after-words : (h : History) (s : State) → After Indexed h s → s .work ≡ workOf (s .judge .capacity) h
-after-words h s a = words-are (s .judge .capacity) h (s .work) (length-work-of s (a .fits)) (a .words)
+after-words h s a = words-are (s .judge .capacity) h (s .work) (state-suiting s (a .fits) .work) (a .words)
 
 -- and so after every list of pushes, from a state after no records
 pub run-words : (o t : State) (ps : List (List ℕ)) → After Indexed [] o → Run Indexed o ps t

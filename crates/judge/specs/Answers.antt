@@ -9,11 +9,7 @@ use Rattle.rules.specs.declared.Report.{Report}
 use Rattle.rules.specs.Reports.{passed}
 use Rattle.judge.specs.declared.state.Judge.{Judge}
 use Rattle.judge.specs.declared.answer.Reported.{Reported}
-use Rattle.judge.specs.States.{refusalNumber}
-
--- "reports take the judge alone and test 5 by C and count"
-abbrev pub fitsBy : ℕ → ℕ → Bool
-fitsBy capacity count = leb capacity 4096 && leb count capacity
+use Rattle.judge.specs.States.{fitsBy, refusalNumber}
 
 -- report number 1 to 8 in printing order; any other number has a pass
 abbrev pub reportNo : List Report → ℕ → Report

@@ -1,20 +1,19 @@
 -- The second demand's words: what the judge says after a list of pushes, by the records taken.
 use mathlib.Core.Path.{_≡_}
 use mathlib.Core.List.{List}
-use Prim.Native.Nat.{ℕ}
+use Prim.Native.Nat.{ℕ, suc, _<_}
 use Rattle.rules.specs.History.{History}
-use Rattle.judge.specs.declared.state.Judge.{Judge}
-use Rattle.judge.specs.declared.state.Refusal.{Refusal}
-use Rattle.judge.specs.declared.list.Listing.{Listing}
+use Rattle.judge.specs.declared.answer.Reported.{Reported}
+use Rattle.judge.specs.declared.lookup.Looked.{Looked}
+use Rattle.judge.specs.declared.lookup.Question.{Question}
 use Rattle.judge.specs.States.{State, refusalNumber, reportsOf}
-use Rattle.judge.specs.Lookups.{Answered}
-use Rattle.judge.specs.Lists.{Lists, ListsBy}
+use Rattle.judge.specs.Answers.{ReportedBy}
+use Rattle.judge.specs.Lookups.{Answered, LookedBy}
+use Rattle.judge.specs.Runs.{reportAt}
 
--- the eight reports are those of the rules for the records taken; so is the answer of every look-up, for whatever it asks of a
--- history, and none is refused by 5; a look-up that writes a list is refused by 8 alone
-pub record Demand2 (tenant : ℕ) (h : History) (t : State) : Type 1 where
+-- the eight reports are those of the rules for the records taken; the call for one of them is not refused and gives it; and so is
+-- the answer to every question, none refused by 5, and by 8 only where the list is too short for it
+pub record Demand2 (tenant : ℕ) (h : History) (t : State) : Type 0 where
   pub reports : t .judge .reports ≡ reportsOf tenant h
-  pub answers : {A : Type 0} (nothing : A) (f : History → A) (why : Refusal) (back : Judge) (a : A)
-      → Answered nothing f (t .judge) (t .log) (t .work) why back a → (refusalNumber why ≡ 0) × (a ≡ f h)
-  pub lists : (words : History → List ℕ) (n : History → ℕ) (out out′ : List ℕ) (r : Listing)
-      → ListsBy words n (t .judge) (t .log) (t .work) out out′ r → Lists (words h) (n h) out out′ r
+  pub reported : (k : ℕ) (r : Reported) → k < 8 → ReportedBy (t .judge) (suc k) r → (refusalNumber (r .refusal) ≡ 0) × (r .report ≡ reportAt k t)
+  pub answers : (q : Question) (out out′ : List ℕ) (r : Looked) → LookedBy q (t .judge) (t .log) (t .work) out out′ r → Answered q h out out′ r

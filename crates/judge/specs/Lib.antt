@@ -6,7 +6,7 @@ pub mod WorkArea
 pub mod Steps
 pub mod Answers
 pub mod Lookups
-pub mod Lists
 pub mod Runs
 pub mod Traces
 pub mod Demand2
+pub mod Pieces

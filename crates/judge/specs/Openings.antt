@@ -15,11 +15,6 @@ pub record Fits (logs words c : ℕ) : Type 0 where
   pub log : logs ≡ 368 * c
   pub work : words ≡ 32 * c
 
--- r is the capacity that fits, or 0 where none does
-pub record Fitting (logs words r : ℕ) : Type 0 where
-  pub found : (r ≡ 0 → ⊥) → Fits logs words r
-  pub missing : r ≡ 0 → (c : ℕ) → Fits logs words c → ⊥
-
 -- "count 0 and eight passes"
 abbrev pub freshOf : ℕ → ℕ → Judge
 freshOf capacity tenant = record { capacity = capacity; count = 0; tenant = tenant; reports = replicate 8 passed }

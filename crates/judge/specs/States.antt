@@ -31,9 +31,13 @@ refusalNumber Full = 6
 refusalNumber Opening = 7
 refusalNumber Output = 8
 
--- refusal 5: "the judge's C is above 4,096, log or work lengths are not those of C, or its count exceeds C"
+-- refusal 5: "the judge's C is above 4,096, log or work lengths are not those of C, or its count exceeds C"; "reports take the
+-- judge alone and test 5 by C and count"
+abbrev pub fitsBy : ℕ → ℕ → Bool
+fitsBy capacity count = leb capacity 4096 && leb count capacity
+
 abbrev pub suitsBy : ℕ → ℕ → ℕ → ℕ → Bool
-suitsBy capacity count logs words = leb capacity 4096 && eqb logs (368 * capacity) && eqb words (32 * capacity) && leb count capacity
+suitsBy capacity count logs words = fitsBy capacity count && (eqb logs (368 * capacity) && eqb words (32 * capacity))
 
 -- the form's refusal, and after it 6: "the count is C"
 abbrev pub orFullBy : ℕ → Bool → ℕ

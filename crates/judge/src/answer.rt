@@ -4,20 +4,13 @@ use crate::state::Judge;
 use crate::state::Refusal;
 use rules::Report;
 ghost use mathlib.Core.Path.{_≡_};
-ghost use Rattle.judge.specs.Answers.{fitsBy, reportNo, ReportedBy};
+ghost use Rattle.judge.specs.Answers.{reportNo, ReportedBy};
 
 // What a call for a report gives: its refusal, the judge as it was given, and the report.
 pub struct Reported {
     pub refusal: Refusal,
     pub judge: Judge,
     pub report: Report,
-}
-
-// Whether a judge's numbers are those of a judge.
-fn is_fit(capacity: usize, count: usize) -> bool
-    ensures { λ r. ⌜ r ≡ fitsBy capacity count ⌝ }
-{
-    (capacity <= Judge::CAPACITY) & (count <= capacity)
 }
 
 // The report with a number from 1 to 8; any other number has a pass.
@@ -39,18 +32,20 @@ impl Judge {
     pub fn report(self, k: usize) -> Reported
         ensures { λ r. ⌜ ReportedBy self k r ⌝ }
     {
-        if !is_fit(self.capacity, self.count) {
+        let fit = self.fits();
+        let judge = fit.judge;
+        if !fit.holds {
             return Reported {
                 refusal: Refusal::Judge,
-                judge: self,
+                judge: judge,
                 report: pass(),
             };
         }
-        let reports = self.reports;
+        let reports = judge.reports;
         let report = report_no(reports, k);
         Reported {
             refusal: Refusal::Nothing,
-            judge: self,
+            judge: judge,
             report: report,
         }
     }

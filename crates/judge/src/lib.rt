@@ -1,11 +1,10 @@
 // The judge of a trace, by value: opening, pushing, reports, look-ups and a whole trace.
 pub mod answer;
 pub mod host;
-pub mod list;
 pub mod lookup;
 pub mod opening;
 pub mod push;
-pub mod report;
+mod report;
 pub mod state;
-pub mod step;
+mod step;
 pub mod trace;

@@ -5,7 +5,7 @@ use crate::state::Refusal;
 use history::chain::clear;
 ghost use mathlib.Core.Path.{_≡_};
 ghost use lib.ListN.{length};
-ghost use Rattle.judge.specs.Openings.{Fitting, freshOf, Opens};
+ghost use Rattle.judge.specs.Openings.{freshOf, Opens};
 
 // What an opening gives: its refusal, and the judge.
 pub struct Opened {
@@ -13,38 +13,18 @@ pub struct Opened {
     pub judge: Judge,
 }
 
-// The capacity that both lengths are those of, or 0 where there is none from 1 to 4,096.
-fn capacity_of(logs: usize, words: usize) -> usize
-    ensures { λ r. ⌜ Fitting logs words r ⌝ }
-{
-    let capacity = logs / Judge::RECORD_SIZE;
-    if capacity == 0 {
-        return 0;
-    }
-    if Judge::CAPACITY < capacity {
-        return 0;
-    }
-    if logs != Judge::RECORD_SIZE * capacity {
-        return 0;
-    }
-    if words != Judge::WORDS * capacity {
-        return 0;
-    }
-    capacity
-}
-
 impl Judge {
     // The largest capacity.
     pub const CAPACITY: usize = 4096;
 
     // The bytes of a record.
-    pub const RECORD_SIZE: usize = 368;
+    pub const RECORD_SIZE: usize = record::limits::RECORD_SIZE;
 
     // The words of the work area for each record.
     pub const WORDS: usize = 32;
 
     // The most bytes of a key.
-    pub const KEY_LIMIT: usize = 31;
+    pub const KEY_LIMIT: u8 = record::limits::KEY_LIMIT;
 
     // A judge that has taken nothing: eight passes.
     fn fresh(capacity: usize, tenant: u64) -> Self
@@ -71,17 +51,19 @@ impl Judge {
     pub fn open(tenant: u64, log: &[u8], work: &mut [u64]) -> Opened
         ensures { λ r. ⌜ Opens tenant (length (now (log .entry))) (now (work .entry)) r (now (work .exit)) ⌝ }
     {
-        let capacity = capacity_of(log.len(), work.len());
-        if capacity == 0 {
+        let capacity = log.len() / Judge::RECORD_SIZE;
+        let asked = Judge::fresh(capacity, tenant).suits(log.len(), work.len());
+        if !asked.holds | (capacity == 0) {
             return Opened {
                 refusal: Refusal::Opening,
                 judge: Judge::fresh(0, tenant),
             };
         }
+        let judge = asked.judge;
         clear(work);
         Opened {
             refusal: Refusal::Nothing,
-            judge: Judge::fresh(capacity, tenant),
+            judge: judge,
         }
     }
 }

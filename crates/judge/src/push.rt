@@ -1,7 +1,6 @@
 // Pushing a record: judged, noted in the work area, and then written to the log.
 use crate::state::Judge;
 use crate::state::Refusal;
-use crate::state::refusal_of;
 use crate::step::next_agreement;
 use crate::step::next_generations;
 use crate::step::next_half;
@@ -71,22 +70,24 @@ impl Judge {
     pub fn push(self, log: &mut [u8], work: &mut [u64], rec: &[u8]) -> Pushed
         ensures { λ r. ⌜ PushedBy self (now (log .entry)) (now (work .entry)) (now (rec .entry)) r (now (log .exit)) (now (work .exit)) ⌝ }
     {
-        let n = self.count;
-        let cap = self.capacity;
-        let refusal = refusal_of(cap, n, log.len(), work.len(), rec);
+        let tested = self.refuses(log.len(), work.len(), rec);
+        let refusal = tested.refusal;
+        let judge = tested.judge;
         match refusal {
             Refusal::Nothing => {
-                let judge = self.judged(log, work, rec);
+                let n = judge.count;
+                let cap = judge.capacity;
+                let next = judge.judged(log, work, rec);
                 noted(log, work, n, cap, rec);
                 append(log, n, rec);
                 Pushed {
                     refusal: Refusal::Nothing,
-                    judge: judge,
+                    judge: next,
                 }
             }
             _ => Pushed {
                 refusal: refusal,
-                judge: self,
+                judge: judge,
             },
         }
     }

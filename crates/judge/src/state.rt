@@ -4,7 +4,7 @@ use record::form::form_of;
 use rules::Report;
 ghost use mathlib.Core.Path.{_≡_};
 ghost use Rattle.record.specs.Form.{formNumber};
-ghost use Rattle.judge.specs.States.{suitsBy, orFullBy, pushRefusalBy, refusalNumber};
+ghost use Rattle.judge.specs.States.{fitsBy, suitsBy, orFullBy, pushRefusalBy, refusalNumber};
 
 // Why a call was refused, or that it was not.
 pub enum Refusal {
@@ -25,6 +25,18 @@ pub struct Judge {
     pub count: usize,
     pub tenant: u64,
     pub reports: [Report; 8],
+}
+
+// What a test of the judge gives: whether it holds, and the judge as it was given.
+pub struct Tested {
+    pub holds: bool,
+    pub judge: Judge,
+}
+
+// Why a call is refused, or that it is not, and the judge as it was given.
+pub struct Refused {
+    pub refusal: Refusal,
+    pub judge: Judge,
 }
 
 // Document 01's number of a refusal, 0 where there was none.
@@ -57,18 +69,6 @@ fn of_form(form: Form) -> Refusal
     }
 }
 
-// Whether a judge's numbers and the lengths of its buffers are those of one capacity.
-pub fn is_suiting(capacity: usize, count: usize, logs: usize, words: usize) -> bool
-    ensures { λ r. ⌜ r ≡ suitsBy capacity count logs words ⌝ }
-{
-    if Judge::CAPACITY < capacity {
-        return false;
-    }
-    (logs == Judge::RECORD_SIZE * capacity)
-        & (words == Judge::WORDS * capacity)
-        & (count <= capacity)
-}
-
 // The form's refusal, and after it 6.
 fn or_full(form: Refusal, full: bool) -> Refusal
     ensures { λ r. ⌜ refusalNumber r ≡ orFullBy (refusalNumber form) full ⌝ }
@@ -84,12 +84,49 @@ fn or_full(form: Refusal, full: bool) -> Refusal
     }
 }
 
-// The refusal of a push, in the order 5, 1, 2, 3, 4, 6.
-pub fn refusal_of(capacity: usize, count: usize, logs: usize, words: usize, rec: &[u8]) -> Refusal
-    ensures { λ r. ⌜ refusalNumber r ≡ pushRefusalBy capacity count logs words (now (rec .entry)) ⌝ }
-{
-    if !is_suiting(capacity, count, logs, words) {
-        return Refusal::Judge;
+impl Judge {
+    // Whether the judge's numbers are those of a judge.
+    pub(crate) fn fits(self) -> Tested
+        ensures { λ r. ⌜ (r .holds ≡ fitsBy (self .capacity) (self .count)) × (r .judge ≡ self) ⌝ }
+    {
+        Tested {
+            holds: (self.capacity <= Judge::CAPACITY) & (self.count <= self.capacity),
+            judge: self,
+        }
     }
-    or_full(of_form(form_of(rec)), count == capacity)
+
+    // Whether it fits, and the lengths of a log and a work area are those of its capacity. The capacity's test comes first, so
+    // that the products fit.
+    pub(crate) fn suits(self, logs: usize, words: usize) -> Tested
+        ensures { λ r. ⌜ (r .holds ≡ suitsBy (self .capacity) (self .count) logs words) × (r .judge ≡ self) ⌝ }
+    {
+        let fit = self.fits();
+        if !fit.holds {
+            return fit;
+        }
+        let capacity = self.capacity;
+        Tested {
+            holds: (logs == Judge::RECORD_SIZE * capacity) & (words == Judge::WORDS * capacity),
+            judge: self,
+        }
+    }
+
+    // Why a push is refused, in the order 5, 1, 2, 3, 4, 6, or that it is not.
+    pub(crate) fn refuses(self, logs: usize, words: usize, rec: &[u8]) -> Refused
+        ensures { λ r. ⌜ (refusalNumber (r .refusal) ≡ pushRefusalBy (self .capacity) (self .count) logs words (now (rec .entry))) × (r .judge ≡ self) ⌝ }
+    {
+        let suiting = self.suits(logs, words);
+        let judge = suiting.judge;
+        if !suiting.holds {
+            return Refused {
+                refusal: Refusal::Judge,
+                judge: judge,
+            };
+        }
+        let why = or_full(of_form(form_of(rec)), judge.count == judge.capacity);
+        Refused {
+            refusal: why,
+            judge: judge,
+        }
+    }
 }

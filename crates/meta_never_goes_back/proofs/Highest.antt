@@ -15,14 +15,14 @@ use Rattle.record.proofs.Keys.{le-le-le, lt-le-lt}
 use Rattle.rules.specs.Cases.{isFault, faultIf, orCase, caseOf}
 use Rattle.rules.specs.Descriptors.{spanOf, firstAtGeneration}
 use Rattle.rules.specs.History.{History, isKind, when, greater, greatestOf}
-use Rattle.rules.specs.MetaNeverGoesBack.{Name, isWon, nameBy, names, covers, standingName, namedFault, nameFault, keyFault, wonFault, metaAt}
+use Rattle.rules.specs.MetaNeverGoesBack.{Name, isWon, nameBy, names, covers, standingName, namedFault, nameFault, keyFault, wonFault, metaAt, FirstFaulty, at, clean}
 use Rattle.rules.specs.Reports.{atLast, reportOf}
 use Rattle.rules.specs.declared.Case.{Case}
 use Rattle.rules.specs.declared.Case.the-variants.{Clear, Fault}
 use Rattle.rules.specs.declared.Verdict.the-variants.{Pass}
 use Rattle.rules.proofs.Booleans.{never, and-left, and-right}
 use Rattle.rules.proofs.Members.{Mem, mem-nil, mem-cons}
-use Rattle.rules.proofs.MetaLeast.{FirstFaulty, at, clean, wonFault-right, wonFault-found}
+use Rattle.rules.proofs.MetaLeast.{wonFault-right, wonFault-found}
 use Rattle.rules.proofs.Placed.{Answer}
 use Rattle.rules.proofs.Reports.{reportOf-pass}
 use Rattle.rules.proofs.Skips.{told-nil, told-hit, told-skip}

@@ -12,10 +12,10 @@ use Rattle.record.proofs.Keys.{le-le-le}
 use Rattle.rules.specs.Descriptors.{spanOf}
 use Rattle.rules.specs.MetaNeverGoesBack.{Name, isWon, nameBy, names, standingName, bounds}
 use Rattle.rules.proofs.Members.{Mem, here, there, mem-nil}
-use Rattle.rules.proofs.MetaLeast.{at}
 use Rattle.history.specs.Logs.{bytesAt, recordAt, hist}
 use Rattle.history.proofs.Logs.{record-bytes}
-use Rattle.history.proofs.Queries.{greaterOf, greater-none}
+use Rattle.history.specs.Weighing.{greaterOf}
+use Rattle.history.proofs.Queries.{greater-none}
 use Rattle.meta_never_goes_back.specs.Index.{MetaIndexed, nameBefore}
 use Rattle.meta_never_goes_back.specs.Walk.{nameNo, stoodWith, pull}
 use Rattle.meta_never_goes_back.proofs.Naming.{Down, down, names-more, names-end}

@@ -12,7 +12,7 @@ use Rattle.record.proofs.Keys.{le-lt-lt}
 use Rattle.rules.specs.Cases.{isFault, faultIf, caseOf}
 use Rattle.rules.specs.Descriptors.{spanOf}
 use Rattle.rules.specs.History.{anyOf}
-use Rattle.rules.specs.MetaNeverGoesBack.{Name, covers, standingName, nameFault, keyFault, wonFault, nameBy, names, metaAt}
+use Rattle.rules.specs.MetaNeverGoesBack.{Name, covers, standingName, nameFault, keyFault, wonFault, nameBy, names, metaAt, clean}
 use Rattle.rules.specs.Reports.{atLast, reportOf}
 use Rattle.rules.specs.declared.Case.{Case}
 use Rattle.rules.specs.declared.Case.the-variants.{Clear}
@@ -20,7 +20,7 @@ use Rattle.rules.specs.declared.Verdict.the-variants.{Pass}
 use Rattle.rules.proofs.Best.{Greatest}
 use Rattle.rules.proofs.Booleans.{and-left, and-right}
 use Rattle.rules.proofs.Members.{Mem, here, there, NonePasses, anyOf-none}
-use Rattle.rules.proofs.MetaLeast.{standingName-right, clean, wonFault-found}
+use Rattle.rules.proofs.MetaLeast.{standingName-right, wonFault-found}
 use Rattle.rules.proofs.Placed.{Answer, placed-mem}
 use Rattle.rules.proofs.Skips.{anyOf-nil, anyOf-skip}
 use Rattle.history.specs.Logs.{bytesAt, recordAt, hist}

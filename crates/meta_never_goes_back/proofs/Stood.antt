@@ -13,7 +13,8 @@ use Rattle.rules.specs.MetaNeverGoesBack.{Name, nameBy, covers, standingName, n
 use Rattle.rules.specs.declared.Case.{Case}
 use Rattle.history.specs.Logs.{bytesAt, recordAt}
 use Rattle.history.proofs.Logs.{record-bytes}
-use Rattle.history.proofs.Queries.{greaterOf, greater-none, greater-keep, greater-take, greatest-turns, greatest-end}
+use Rattle.history.specs.Weighing.{greaterOf}
+use Rattle.history.proofs.Queries.{greater-none, greater-keep, greater-take, greatest-turns, greatest-end}
 use Rattle.meta_never_goes_back.specs.Walk.{nameNo, stoodWith}
 
 abbrev pub indexOf : Name → ℕ

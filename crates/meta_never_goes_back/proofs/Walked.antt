@@ -9,11 +9,11 @@ use Rattle.record.specs.Records.{TraceRecord}
 use Rattle.record.proofs.Keys.{lt-or-le, le-refl, clash, lt-le, lt-le-lt, le-le-le}
 use Rattle.rules.specs.Cases.{isFault, caseOf}
 use Rattle.rules.specs.Descriptors.{spanOf}
-use Rattle.rules.specs.MetaNeverGoesBack.{Name, standingName, nameFault, keyFault, bounds, wonFault}
+use Rattle.rules.specs.MetaNeverGoesBack.{Name, standingName, nameFault, keyFault, bounds, wonFault, at, clean}
 use Rattle.rules.specs.declared.Case.{Case}
 use Rattle.rules.specs.declared.Case.the-variants.{Clear}
 use Rattle.rules.proofs.Members.{Mem}
-use Rattle.rules.proofs.MetaLeast.{keyFault-between, at, clean, wonFault-found}
+use Rattle.rules.proofs.MetaLeast.{keyFault-between, wonFault-found}
 
 -- the walk has come to c
 pub record Walked (x : TraceRecord) (ns : List Name) (c : Key) : Type 0 where

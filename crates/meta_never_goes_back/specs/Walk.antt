@@ -9,11 +9,10 @@ use lib.Dec.{ltb, leb}
 use Rattle.record.specs.Keys.{Key, keyLtb}
 use Rattle.record.specs.Records.{TraceRecord}
 use Rattle.rules.specs.Descriptors.{spanOf}
-use Rattle.rules.specs.History.{anyOf}
+use Rattle.rules.specs.History.{Mem, anyOf}
 use Rattle.rules.specs.MetaNeverGoesBack.{Name, isWon, nameBy, names, covers}
-use Rattle.rules.proofs.Members.{Mem}
 use Rattle.history.specs.Logs.{recordAt, hist}
-use Rattle.history.proofs.Queries.{greatestStep}
+use Rattle.history.specs.Weighing.{greatestStep}
 use Rattle.meta_never_goes_back.specs.Index.{unsurpassed}
 
 -- the name that the record of a number gives, none for 0

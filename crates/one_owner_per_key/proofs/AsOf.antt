@@ -9,7 +9,7 @@ use lib.Dec.{eqb, eqb·suc-zero}
 use borrow.Author.Tests.{eq-eqb, ne-eqb}
 use Rattle.record.specs.Records.{TraceRecord}
 use Rattle.rules.specs.History.{History, isBy}
-use Rattle.rules.specs.OneOwnerPerKey.{isHolding, isHeld}
+use Rattle.rules.specs.OneOwnerPerKey.{isHolding, hasHold}
 use Rattle.history.specs.Logs.{recordAt, hist}
 use Rattle.history.specs.Columns.{clamp}
 use Rattle.history.proofs.Logs.{hist-none, hist-length, hist-suc}
@@ -32,7 +32,7 @@ ended-cell node x h e = by-marked (λ n. latestEnd n (x ∷ h)) (wordBy (λ n. l
 
 -- what newly holds a range for a node is the node's
 pub newly-by : (node : ℕ) (x : TraceRecord) (h : History) → newlyHolds node x h ≡ true → isBy node x ≡ true
-newly-by node x h e = and-left (isBy node x) (isHolding x) (and-left (isBy node x && isHolding x) (not (isHeld node (x .a) h)) e)
+newly-by node x h e = and-left (isBy node x) (isHolding x) (and-left (isBy node x && isHolding x) (not (hasHold node (x .a) h)) e)
 
 halves : (n : ℕ) (b : Bool) → ((2 * n + bit b) / 2 ≡ n) × (eqb ((2 * n + bit b) % 2) 1 ≡ b)
 halves n true = (omega arith, eq-eqb ((2 * n + 1) % 2) 1 (omega arith))

@@ -19,9 +19,9 @@ use Rattle.rules.specs.declared.Found.the-variants.{At, Nothing}
 use Rattle.rules.specs.History.{History, isKind, isBy, byNode, holds, lower}
 use Rattle.rules.specs.Descriptors.{spanOf}
 use Rattle.rules.specs.Cases.{firstCase}
-use Rattle.rules.specs.OneOwnerPerKey.{isHolding, heldSpan, isHeld, byMarked, lowestMeeting, groupOf, isNamed, overlapAt, installFault, installAt, twiceAt}
+use Rattle.rules.specs.OneOwnerPerKey.{isHolding, holdOf, hasHold, byMarked, lowestMeeting, groupOf, isNamed, overlapAt, installFault, installAt, twiceAt}
 use Rattle.history.specs.Logs.{recordAt, hist}
-use Rattle.one_owner_per_key.specs.Numbers.{endsAll, latestEnd, latestHold, heldNumber, latestNewly}
+use Rattle.one_owner_per_key.specs.Numbers.{endsAll, latestEnd, latestHold, holdNumber, latestNewly}
 use Rattle.one_owner_per_key.specs.Index.{bit, newlyCell, endedCell}
 use Rattle.one_owner_per_key.specs.Answers.{foundAt, isBelow}
 use Rattle.rules.proofs.Booleans.{never}
@@ -33,16 +33,16 @@ use Rattle.one_owner_per_key.proofs.AsOf.{newly-cell, ended-cell}
 -- ---- what is held, by the latest that says so
 
 module _ (node range : ℕ) (log : List ℕ) (n : ℕ) {k ended : ℕ} (ek : k ≡ latestHold node range (hist log n)) (ee : ended ≡ latestEnd node (hist log n)) where
-  held-is : heldIf log ended k ≡ heldNumber node range (hist log n)
+  held-is : heldIf log ended k ≡ holdNumber node range (hist log n)
   held-is = rw (ek, ee) (sym (held-by-ends node range log n))
 
-  pub held-ended : k ≤ ended → 0 ≡ heldNumber node range (hist log n)
+  pub held-ended : k ≤ ended → 0 ≡ holdNumber node range (hist log n)
   held-ended l = rw (le-ltb ended k l) at held-is
 
-  pub held-holds : {r : Bool} → ended < k → r ≡ isHolding (recordAt log (k - 1)) → r ≡ true → k ≡ heldNumber node range (hist log n)
+  pub held-holds : {r : Bool} → ended < k → r ≡ isHolding (recordAt log (k - 1)) → r ≡ true → k ≡ holdNumber node range (hist log n)
   held-holds l e t = let q : isHolding (recordAt log (k - 1)) ≡ true = sym e ∙ t in rw (lt-ltb ended k l, q) at held-is
 
-  pub held-lacks : {r : Bool} → ended < k → r ≡ isHolding (recordAt log (k - 1)) → r ≡ false → 0 ≡ heldNumber node range (hist log n)
+  pub held-lacks : {r : Bool} → ended < k → r ≡ isHolding (recordAt log (k - 1)) → r ≡ false → 0 ≡ holdNumber node range (hist log n)
   held-lacks l e t = let q : isHolding (recordAt log (k - 1)) ≡ false = sym e ∙ t in rw (lt-ltb ended k l, q) at held-is
 
 -- ---- what was found
@@ -61,12 +61,12 @@ lost-case : (n : ℕ) (t : Bool) → eqb n 0 ≡ t → foundAt n ≡ Nothing →
 lost-case n true e h = refl
 lost-case n false e h = let g : At n ≡ Nothing = rw e at h in let z : _≡_ {A = ℕ} 0 1 = cc in absurd (omega arith)
 
-module _ (node range : ℕ) (h : History) {f : Found} (e : f ≡ foundAt (heldNumber node range h)) where
-  pub found-held : {k : ℕ} → f ≡ At k → isHeld node range h ≡ true
-  found-held {k} g = held-some node range h ∙ found-case (heldNumber node range h) k (eqb (heldNumber node range h) 0) refl (sym e ∙ g)
+module _ (node range : ℕ) (h : History) {f : Found} (e : f ≡ foundAt (holdNumber node range h)) where
+  pub found-held : {k : ℕ} → f ≡ At k → hasHold node range h ≡ true
+  found-held {k} g = held-some node range h ∙ found-case (holdNumber node range h) k (eqb (holdNumber node range h) 0) refl (sym e ∙ g)
 
-  pub lost-held : f ≡ Nothing → isHeld node range h ≡ false
-  lost-held g = held-some node range h ∙ lost-case (heldNumber node range h) (eqb (heldNumber node range h) 0) refl (sym e ∙ g)
+  pub lost-held : f ≡ Nothing → hasHold node range h ≡ false
+  lost-held g = held-some node range h ∙ lost-case (holdNumber node range h) (eqb (holdNumber node range h) 0) refl (sym e ∙ g)
 
 -- the record found has the span that is held
 abbrev pub spanFound : List ℕ → Found → Option Span
@@ -77,22 +77,22 @@ span-case : (log : List ℕ) (n : ℕ) (t : Bool) → eqb n 0 ≡ t → spanFoun
 span-case log n true e = refl
 span-case log n false e = refl
 
-pub found-span : (node range : ℕ) (log : List ℕ) (n : ℕ) {f : Found} → f ≡ foundAt (heldNumber node range (hist log n)) → spanFound log f ≡ heldSpan node range (hist log n)
+pub found-span : (node range : ℕ) (log : List ℕ) (n : ℕ) {f : Found} → f ≡ foundAt (holdNumber node range (hist log n)) → spanFound log f ≡ holdOf node range (hist log n)
 found-span node range log n e =
-    let k = heldNumber node range (hist log n) in
+    let k = holdNumber node range (hist log n) in
     ap (spanFound log) e ∙ span-case log k (eqb k 0) refl ∙ held-span node range log n
 
 -- ---- a span that meets the one held
 
-module _ (p : Span → Bool) (node range : ℕ) (log : List ℕ) (n : ℕ) {i : ℕ} (e : i ≡ heldNumber node range (hist log n)) where
-  span-is : spanBy log i ≡ heldSpan node range (hist log n)
+module _ (p : Span → Bool) (node range : ℕ) (log : List ℕ) (n : ℕ) {i : ℕ} (e : i ≡ holdNumber node range (hist log n)) where
+  span-is : spanBy log i ≡ holdOf node range (hist log n)
   span-is = rw e (held-span node range log n)
 
-  pub met-none : i ≡ 0 → false ≡ holds p (heldSpan node range (hist log n))
-  met-none z = let s : none ≡ heldSpan node range (hist log n) = rw (eq-eqb i 0 z) at span-is in ap (holds p) s
+  pub met-none : i ≡ 0 → false ≡ holds p (holdOf node range (hist log n))
+  met-none z = let s : none ≡ holdOf node range (hist log n) = rw (eq-eqb i 0 z) at span-is in ap (holds p) s
 
-  pub met-some : {q : Bool} → (i ≡ 0 → ⊥) → q ≡ p (spanOf 0 (recordAt log (i - 1))) → q ≡ holds p (heldSpan node range (hist log n))
-  met-some z g = let s : some (spanOf 0 (recordAt log (i - 1))) ≡ heldSpan node range (hist log n) = rw (ne-eqb i 0 z) at span-is in g ∙ ap (holds p) s
+  pub met-some : {q : Bool} → (i ≡ 0 → ⊥) → q ≡ p (spanOf 0 (recordAt log (i - 1))) → q ≡ holds p (holdOf node range (hist log n))
+  met-some z g = let s : some (spanOf 0 (recordAt log (i - 1))) ≡ holdOf node range (hist log n) = rw (ne-eqb i 0 z) at span-is in g ∙ ap (holds p) s
 
 -- ---- the lowest so far
 
@@ -128,27 +128,27 @@ module _ (r : ℕ) (o : Option ℕ) {b : Bool} (P Q : Bool) (eb : b ≡ isBelow 
 -- ---- the cells
 
 module _ (node : ℕ) (x : TraceRecord) (h : History) {p : Bool} (ep : p ≡ isHolding x) where
-  pub newly-not : p ≡ false → 0 ≡ bit (isHolding x && not (isHeld node (x .a) h))
+  pub newly-not : p ≡ false → 0 ≡ bit (isHolding x && not (hasHold node (x .a) h))
   newly-not e = let q : isHolding x ≡ false = sym ep ∙ e in rw q
 
-  module _ {range k : ℕ} (t : p ≡ true) (er : range ≡ x .a) (ek : k ≡ heldNumber node range h) where
-    pub newly-free : k ≡ 0 → 1 ≡ bit (isHolding x && not (isHeld node (x .a) h))
+  module _ {range k : ℕ} (t : p ≡ true) (er : range ≡ x .a) (ek : k ≡ holdNumber node range h) where
+    pub newly-free : k ≡ 0 → 1 ≡ bit (isHolding x && not (hasHold node (x .a) h))
     newly-free z =
         let q : isHolding x ≡ true = sym ep ∙ t in
-        let g : isHeld node range h ≡ false = held-some node range h ∙ rw (← ek, eq-eqb k 0 z) in
+        let g : hasHold node range h ≡ false = held-some node range h ∙ rw (← ek, eq-eqb k 0 z) in
         rw (q, ← er, g)
 
-    pub newly-held : (k ≡ 0 → ⊥) → 0 ≡ bit (isHolding x && not (isHeld node (x .a) h))
+    pub newly-held : (k ≡ 0 → ⊥) → 0 ≡ bit (isHolding x && not (hasHold node (x .a) h))
     newly-held z =
         let q : isHolding x ≡ true = sym ep ∙ t in
-        let g : isHeld node range h ≡ true = held-some node range h ∙ rw (← ek, ne-eqb k 0 z) in
+        let g : hasHold node range h ≡ true = held-some node range h ∙ rw (← ek, ne-eqb k 0 z) in
         rw (q, ← er, g)
 
 module _ (n : NodeId) (x : TraceRecord) (h : History) (m : x .node ≡ Marked n) where
   pub is-marked : isBy (n .0) x ≡ true
   is-marked = ap (byNode (n .0)) m ∙ eq-eqb (n .0) (n .0) refl
 
-  pub newly-word : {w b : ℕ} → w ≡ latestNewly (n .0) h → b ≡ bit (isHolding x && not (isHeld (n .0) (x .a) h)) → 2 * w + b ≡ newlyCell x h
+  pub newly-word : {w b : ℕ} → w ≡ latestNewly (n .0) h → b ≡ bit (isHolding x && not (hasHold (n .0) (x .a) h)) → 2 * w + b ≡ newlyCell x h
   newly-word {w} {b} ew eb = sym (newly-cell (n .0) x h is-marked ∙ rw (← ew, is-marked, ← eb))
 
   pub ended-word : {count e w : ℕ} → length h ≡ count → e ≡ latestEnd (n .0) h → w ≡ cond (isKind 6 x || isKind 10 x) (count + 1) e → w ≡ endedCell x h
@@ -201,11 +201,11 @@ module _ (x : TraceRecord) (h : History) where
     twice-other e = sym (marked _ m ∙ rw e)
 
     module _ {a : ℕ} (e : isKind 1 x ≡ true) (ea : a ≡ x .a) where
-      pub twice-held : {b : ℕ} → b ≡ x .b → isHeld (n .0) a h ≡ true → faultBy (n .0) a b ≡ twiceAt x h
+      pub twice-held : {b : ℕ} → b ≡ x .b → hasHold (n .0) a h ≡ true → faultBy (n .0) a b ≡ twiceAt x h
       unfolding twiceAt
       twice-held eb g = sym (marked _ m ∙ rw (e, ← ea, ← eb, g))
 
-      pub twice-free : isHeld (n .0) a h ≡ false → Clear ≡ twiceAt x h
+      pub twice-free : hasHold (n .0) a h ≡ false → Clear ≡ twiceAt x h
       unfolding twiceAt
       twice-free g = sym (marked _ m ∙ rw (e, ← ea, g))
 

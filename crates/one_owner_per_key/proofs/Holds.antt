@@ -10,44 +10,44 @@ use lib.ListN.{length}
 use lib.Dec.{eqb, ltb, eqb·suc-zero}
 use borrow.Author.Tests.{lt-ltb, le-ltb, eqb-true}
 use Rattle.record.specs.Records.{Span, TraceRecord}
-use Rattle.rules.specs.History.{History, isKind, isBy, isSome, given, orElse, when, latest}
+use Rattle.rules.specs.History.{History, isKind, isBy, Change, becomes, ends, lasting, isSome, orElse, when, latest}
 use Rattle.rules.specs.Descriptors.{spanOf}
-use Rattle.rules.specs.OneOwnerPerKey.{isHolding, isEnding, tellsHold, heldSpan, isHeld}
+use Rattle.rules.specs.OneOwnerPerKey.{isHolding, isEnding, tellsHold, holdOf, hasHold}
 use Rattle.history.specs.Logs.{recordAt, hist}
 use Rattle.history.proofs.Logs.{hist-none, hist-length, hist-suc}
-use Rattle.one_owner_per_key.specs.Numbers.{endsAll, latestEnd, newlyHolds, saysHold, latestHold, heldNumber}
-use Rattle.rules.proofs.Booleans.{never, decide}
-use Rattle.one_owner_per_key.proofs.Marks.{and-none, kind-apart}
+use Rattle.one_owner_per_key.specs.Numbers.{endsAll, latestEnd, newlyHolds, saysHold, latestHold, holdNumber}
+use Rattle.rules.proofs.Booleans.{never, decide, kind-apart}
+use Rattle.one_owner_per_key.proofs.Marks.{and-none}
 use Rattle.one_owner_per_key.proofs.Latest.{number-none, number-bound, at-hit, at-miss}
 
 -- ---- one record on
 
-span-cases : (b u v : Bool) (s : Span) (l : Option (Option Span))
-    → given (λ (o : Option Span). o) (orElse (cond b (cond u (some (some s)) (when v none)) none) l)
-    ≡ cond b (cond u (some s) (cond v none (given (λ (o : Option Span). o) l))) (given (λ (o : Option Span). o) l)
+span-cases : (b u v : Bool) (s : Span) (l : Option (Change Span))
+    → lasting (orElse (cond b (cond u (some (becomes s)) (when v ends)) none) l)
+    ≡ cond b (cond u (some s) (cond v none (lasting l))) (lasting l)
 span-cases true true v s l = refl
 span-cases true false true s l = refl
 span-cases true false false s l = refl
 span-cases false u v s l = refl
 
 module _ (node range : ℕ) where
-  pub span-none : heldSpan node range [] ≡ none
-  unfolding heldSpan latest
+  pub span-none : holdOf node range [] ≡ none
+  unfolding holdOf latest
   span-none = refl
 
-  pub span-step : (x : TraceRecord) (h : History) → heldSpan node range (x ∷ h)
-      ≡ cond (isBy node x) (cond (isHolding x && eqb (x .a) range) (some (spanOf 0 x)) (cond (isEnding range x) none (heldSpan node range h))) (heldSpan node range h)
-  unfolding heldSpan latest
+  pub span-step : (x : TraceRecord) (h : History) → holdOf node range (x ∷ h)
+      ≡ cond (isBy node x) (cond (isHolding x && eqb (x .a) range) (some (spanOf 0 x)) (cond (isEnding range x) none (holdOf node range h))) (holdOf node range h)
+  unfolding holdOf latest
   span-step x h =
       span-cases (isBy node x) (isHolding x && eqb (x .a) range) (isEnding range x) (spanOf 0 x) (latest (tellsHold node range) h)
 
-  pub held-none : heldNumber node range [] ≡ 0
-  unfolding heldNumber
+  pub held-none : holdNumber node range [] ≡ 0
+  unfolding holdNumber
   held-none = refl
 
-  pub held-step : (x : TraceRecord) (h : History) → heldNumber node range (x ∷ h)
-      ≡ cond (isBy node x) (cond (isHolding x && eqb (x .a) range) (suc (length h)) (cond (isEnding range x) 0 (heldNumber node range h))) (heldNumber node range h)
-  unfolding heldNumber
+  pub held-step : (x : TraceRecord) (h : History) → holdNumber node range (x ∷ h)
+      ≡ cond (isBy node x) (cond (isHolding x && eqb (x .a) range) (suc (length h)) (cond (isEnding range x) 0 (holdNumber node range h))) (holdNumber node range h)
+  unfolding holdNumber
   held-step x h = refl
 
 -- ---- the record found has the span
@@ -64,12 +64,12 @@ by-cases log n k true false true = refl
 by-cases log n k true false false = refl
 by-cases log n k false u v = refl
 
-pub held-span : (node range : ℕ) (log : List ℕ) (n : ℕ) → spanBy log (heldNumber node range (hist log n)) ≡ heldSpan node range (hist log n)
+pub held-span : (node range : ℕ) (log : List ℕ) (n : ℕ) → spanBy log (holdNumber node range (hist log n)) ≡ holdOf node range (hist log n)
 held-span node range log zero = rw (hist-none, held-none, span-none)
 held-span node range log (suc n) =
     let x = recordAt log n in
     rw (hist-suc, held-step, span-step, hist-length)
-    (by-cases log n (heldNumber node range (hist log n)) (isBy node x) (isHolding x && eqb (x .a) range) (isEnding range x)
+    (by-cases log n (holdNumber node range (hist log n)) (isBy node x) (isHolding x && eqb (x .a) range) (isEnding range x)
     ∙ rw (held-span node range log n))
 
 -- a range is held where a record is found
@@ -80,11 +80,11 @@ some-cases n k s o true false true e = refl
 some-cases n k s o true false false e = e
 some-cases n k s o false u v e = e
 
-pub held-some : (node range : ℕ) (h : History) → isHeld node range h ≡ not (eqb (heldNumber node range h) 0)
+pub held-some : (node range : ℕ) (h : History) → hasHold node range h ≡ not (eqb (holdNumber node range h) 0)
 held-some node range [] = rw (span-none, held-none)
 held-some node range (x ∷ h) =
     rw (span-step, held-step)
-    (some-cases (length h) (heldNumber node range h) (spanOf 0 x) (heldSpan node range h) (isBy node x) (isHolding x && eqb (x .a) range) (isEnding range x)
+    (some-cases (length h) (holdNumber node range h) (spanOf 0 x) (holdOf node range h) (isBy node x) (isHolding x && eqb (x .a) range) (isEnding range x)
     (held-some node range h))
 
 -- ---- the latest that says so, against the node's latest end
@@ -117,7 +117,7 @@ module _ (node range : ℕ) (log : List ℕ) where
 
   -- a record that tells nothing of the hold leaves both as they were
   pass : (n : ℕ) → saysHold node range (recordAt log n) ≡ false → endsAll node (recordAt log n) ≡ false
-      → heldNumber node range (hist log n) ≡ by-ends n → heldNumber node range (hist log n) ≡ by-ends (suc n)
+      → holdNumber node range (hist log n) ≡ by-ends n → holdNumber node range (hist log n) ≡ by-ends (suc n)
   unfolding by-ends
   pass n p q e = rw (at-miss (λ x _. saysHold node range x) log n p, at-miss (λ x _. endsAll node x) log n q) e
 
@@ -131,24 +131,24 @@ module _ (node range : ℕ) (log : List ℕ) where
       rw (at-hit (λ x _. saysHold node range x) log n p, at-miss (λ x _. endsAll node x) log n q, lt-ltb (latestEnd node (hist log n)) (suc n) m, s, e)
 
   -- the record at n ends all
-  ends : (n : ℕ) → saysHold node range (recordAt log n) ≡ false → endsAll node (recordAt log n) ≡ true → by-ends (suc n) ≡ 0
+  all-ends : (n : ℕ) → saysHold node range (recordAt log n) ≡ false → endsAll node (recordAt log n) ≡ true → by-ends (suc n) ≡ 0
   unfolding by-ends
-  ends n p q =
+  all-ends n p q =
       let m : latestHold node range (hist log n) ≤ suc n = omega (arith, number-bound (λ x _. saysHold node range x) log n) in
       rw (at-miss (λ x _. saysHold node range x) log n p, at-hit (λ x _. endsAll node x) log n q, le-ltb (suc n) (latestHold node range (hist log n)) m)
 
   -- it does not say so: it ends all, or tells nothing
   other : (n : ℕ) (z : Bool) → isBy node (recordAt log n) ≡ true → isKind 6 (recordAt log n) || isKind 10 (recordAt log n) ≡ z
-      → saysHold node range (recordAt log n) ≡ false → heldNumber node range (hist log n) ≡ by-ends n
-      → cond z 0 (heldNumber node range (hist log n)) ≡ by-ends (suc n)
-  other n true eb ez s ih = sym (ends n s (rw (eb, ez)))
+      → saysHold node range (recordAt log n) ≡ false → holdNumber node range (hist log n) ≡ by-ends n
+      → cond z 0 (holdNumber node range (hist log n)) ≡ by-ends (suc n)
+  other n true eb ez s ih = sym (all-ends n s (rw (eb, ez)))
   other n false eb ez s ih = pass n s (rw (eb, ez)) ih
 
   -- a step, by what the record is: b its node's, p it holds, q it removes, a its range, z it ends all
   step : (n : ℕ) (b p q a z : Bool) → isBy node (recordAt log n) ≡ b → isHolding (recordAt log n) ≡ p → isKind 9 (recordAt log n) ≡ q
       → eqb (recordAt log n .a) range ≡ a → isKind 6 (recordAt log n) || isKind 10 (recordAt log n) ≡ z
-      → heldNumber node range (hist log n) ≡ by-ends n
-      → cond b (cond (p && a) (suc n) (cond (q && a || z) 0 (heldNumber node range (hist log n)))) (heldNumber node range (hist log n)) ≡ by-ends (suc n)
+      → holdNumber node range (hist log n) ≡ by-ends n
+      → cond b (cond (p && a) (suc n) (cond (q && a || z) 0 (holdNumber node range (hist log n)))) (holdNumber node range (hist log n)) ≡ by-ends (suc n)
   step n false p q a z eb ep eq ea ez ih = pass n (rw eb) (rw eb) ih
   step n true true q true z eb ep eq ea ez ih = sym (says n true ep (rw (eb, ep, ea)) (holding-goes-on node (recordAt log n) ep))
   step n true true true false z eb ep eq ea ez ih = other n z eb ez (rw (ea, and-none)) ih
@@ -163,13 +163,13 @@ or-assoc false b c = refl
 
 -- THE HOLD LAW
 pub held-by-ends : (node range : ℕ) (log : List ℕ) (n : ℕ)
-    → heldNumber node range (hist log n) ≡ heldIf log (latestEnd node (hist log n)) (latestHold node range (hist log n))
+    → holdNumber node range (hist log n) ≡ heldIf log (latestEnd node (hist log n)) (latestHold node range (hist log n))
 unfolding by-ends
 held-by-ends node range log zero =
     rw (hist-none, held-none, number-none (λ x _. endsAll node x), number-none (λ x _. saysHold node range x))
 held-by-ends node range log (suc n) =
     let x = recordAt log n in
-    ap (heldNumber node range) (hist-suc log n)
+    ap (holdNumber node range) (hist-suc log n)
     ∙ held-step node range x (hist log n)
     ∙ rw (hist-length, or-assoc)
     (step node range log n (isBy node x) (isHolding x) (isKind 9 x) (eqb (x .a) range) (isKind 6 x || isKind 10 x) refl refl refl refl refl
@@ -209,7 +209,7 @@ module _ (node range : ℕ) (log : List ℕ) (n : ℕ) where
   })
 
   -- here, where it was not held before
-  here : isBy node (recordAt log n) ≡ true → isHolding (recordAt log n) ≡ true → eqb (recordAt log n .a) range ≡ true → isHeld node range (hist log n) ≡ false
+  here : isBy node (recordAt log n) ≡ true → isHolding (recordAt log n) ≡ true → eqb (recordAt log n .a) range ≡ true → hasHold node range (hist log n) ≡ false
       → Began node range log (latestEnd node (hist log (suc n))) (suc n)
   here b p a h =
       let q : recordAt log n .a ≡ range = eqb-true (recordAt log n .a) range a in
@@ -223,12 +223,12 @@ module _ (node range : ℕ) (log : List ℕ) (n : ℕ) where
 
   began-step : (b p a v : Bool) → isBy node (recordAt log n) ≡ b → isHolding (recordAt log n) ≡ p → eqb (recordAt log n .a) range ≡ a
       → isEnding range (recordAt log n) ≡ v
-      → (isHeld node range (hist log n) ≡ true → Began node range log (latestEnd node (hist log n)) n)
-      → isSome (cond b (cond (p && a) (some (spanOf 0 (recordAt log n))) (cond v none (heldSpan node range (hist log n)))) (heldSpan node range (hist log n))) ≡ true
+      → (hasHold node range (hist log n) ≡ true → Began node range log (latestEnd node (hist log n)) n)
+      → isSome (cond b (cond (p && a) (some (spanOf 0 (recordAt log n))) (cond v none (holdOf node range (hist log n)))) (holdOf node range (hist log n))) ≡ true
       → Began node range log (latestEnd node (hist log (suc n))) (suc n)
   began-step false p a v eb ep ea ev ih h = later (rw eb) (ih h)
   began-step true true true v eb ep ea ev ih h =
-      elim (decide (isHeld node range (hist log n))) [
+      elim (decide (hasHold node range (hist log n))) [
         | inl k ↦ later (holding-goes-on node (recordAt log n) ep) (ih k)
         | inr k ↦ here eb ep ea k
       ]
@@ -238,7 +238,7 @@ module _ (node range : ℕ) (log : List ℕ) (n : ℕ) where
   began-step true false a false eb ep ea ev ih h = later (goes-on node range (recordAt log n) ev) (ih h)
 
 -- THE LAW OF THE LIST: what is held was newly held after the node's latest end
-pub began : (node range : ℕ) (log : List ℕ) (n : ℕ) → isHeld node range (hist log n) ≡ true → Began node range log (latestEnd node (hist log n)) n
+pub began : (node range : ℕ) (log : List ℕ) (n : ℕ) → hasHold node range (hist log n) ≡ true → Began node range log (latestEnd node (hist log n)) n
 began node range log zero h = never h (rw (hist-none, span-none))
 began node range log (suc n) h =
     let x = recordAt log n in

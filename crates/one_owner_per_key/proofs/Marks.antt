@@ -1,12 +1,11 @@
--- Laws of tests on a record: it has one kind, and what is said by cases of its node is said of the node that marks it.
-use mathlib.Core.Path.{_≡_, refl, sym, ap, _∙_}
+-- Laws of tests on a record: what is said by cases of its node is said of the node that marks it.
+use mathlib.Core.Path.{_≡_, refl, ap, _∙_}
 use mathlib.Core.Bool.{Bool, true, false, _&&_, _||_}
 use Prim.Native.Nat.{ℕ}
-use borrow.Author.Tests.{eqb-true, ne-eqb}
+use borrow.Author.Tests.{eqb-true}
 use Rattle.record.specs.declared.named.Node.{Node}
 use Rattle.record.specs.declared.named.Node.the-variants.{Marked, Missing}
-use Rattle.record.specs.Records.{TraceRecord}
-use Rattle.rules.specs.History.{isKind, byNode}
+use Rattle.rules.specs.History.{byNode}
 use Rattle.rules.proofs.Booleans.{never}
 
 pub and-none : (a : Bool) → a && false ≡ false
@@ -16,10 +15,6 @@ and-none false = refl
 pub or-all : (a : Bool) → a || true ≡ true
 or-all true = refl
 or-all false = refl
-
--- a record has one kind
-pub kind-apart : (j k : ℕ) (x : TraceRecord) → (j ≡ k → ⊥) → isKind j x ≡ true → isKind k x ≡ false
-kind-apart j k x n e = ne-eqb (x .kind) k (λ q. n (sym (eqb-true (x .kind) j e) ∙ q))
 
 -- what is said by cases of a record's node is said of the node that it is marked with
 pub by-marked : {A : Type 0} (f : ℕ → A) (g : Node → A) → ((n : ℕ) → g (Marked (record { 0 = n })) ≡ f n)

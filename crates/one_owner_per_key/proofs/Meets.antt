@@ -9,7 +9,7 @@ use native.Mathlib.Omega.{arith}
 use native.Mathlib.Decide.{decLt}
 use Rattle.record.specs.Records.{Span}
 use Rattle.rules.specs.History.{History, holds}
-use Rattle.rules.specs.OneOwnerPerKey.{heldSpan, isHeld, meets, lowestMeeting}
+use Rattle.rules.specs.OneOwnerPerKey.{holdOf, hasHold, meets, lowestMeeting}
 use Rattle.history.specs.Logs.{recordAt, hist}
 use Rattle.one_owner_per_key.specs.Numbers.{newlyHolds, latestEnd, latestNewly}
 use Rattle.rules.proofs.Candidates.{holds-some, lowestMeeting-right}
@@ -20,10 +20,10 @@ use Rattle.one_owner_per_key.proofs.Lowest.{atMost, Sound, Least, least
 
 -- a range that may not be met, held over a span that meets s
 abbrev pub met : (ℕ → Bool) → Span → ℕ → History → ℕ → Bool
-met p s node h r = p r && holds (meets s) (heldSpan node r h)
+met p s node h r = p r && holds (meets s) (holdOf node r h)
 
-met-held : (p : ℕ → Bool) (s : Span) (node : ℕ) (h : History) (r : ℕ) → met p s node h r ≡ true → isHeld node r h ≡ true
-met-held p s node h r e = holds-some (meets s) (heldSpan node r h) (and-right (p r) (holds (meets s) (heldSpan node r h)) e)
+met-held : (p : ℕ → Bool) (s : Span) (node : ℕ) (h : History) (r : ℕ) → met p s node h r ≡ true → hasHold node r h ≡ true
+met-held p s node h r e = holds-some (meets s) (holdOf node r h) (and-right (p r) (holds (meets s) (holdOf node r h)) e)
 
 -- ---- the walk
 

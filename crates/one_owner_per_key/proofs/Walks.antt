@@ -22,7 +22,7 @@ use Rattle.history.proofs.Chains.{In, Stands, stands-first, stands-next}
 use Rattle.history.proofs.Walks.{look-end, upTo, up-to-below, up-to-above, up-to-outside}
 use Rattle.one_owner_per_key.specs.Numbers.{latestNumber, saysHold}
 use Rattle.history.specs.Buckets.{bucketBy, bucketByTwo}
-use Rattle.one_owner_per_key.specs.Index.{isChained, holdOf, nodeOf, byHold, byOwner}
+use Rattle.one_owner_per_key.specs.Index.{isChained, holdBucket, nodeOf, byHold, byOwner}
 use Rattle.rules.proofs.Booleans.{never, decide, and-left, and-right}
 use Rattle.one_owner_per_key.proofs.Marks.{or-all, by-marked}
 use Rattle.one_owner_per_key.proofs.Latest.{passesAt, number-none, at-miss, less-hit, less-miss}
@@ -92,7 +92,7 @@ pub hold-within : (cap node range : ℕ) (x : TraceRecord) (h : History) → isB
     → byHold cap x h ≡ some (bucketByTwo cap node range)
 unfolding byHold
 hold-within cap node range x h b k a =
-    by-marked (λ n. when (isChained x) (bucketByTwo cap n (x .a))) (holdOf cap x) (λ n. refl) node (x .node) b ∙ rw (k, a)
+    by-marked (λ n. when (isChained x) (bucketByTwo cap n (x .a))) (holdBucket cap x) (λ n. refl) node (x .node) b ∙ rw (k, a)
 
 pub by-hold : (cap node range : ℕ) → Within (λ x _. saysHold node range x) (byHold cap) (bucketByTwo cap node range)
 by-hold cap node range = record {

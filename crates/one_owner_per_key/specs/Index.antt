@@ -23,12 +23,12 @@ abbrev pub isChained : TraceRecord → Bool
 isChained x = isKind 1 x || isKind 2 x || isKind 7 x || isKind 9 x || (isKind 3 x && eqb (x .code) 4)
 
 -- the bucket of a record by its node: none without one
-abbrev pub holdOf : ℕ → TraceRecord → Node → Option ℕ
-holdOf cap x Missing = none
-holdOf cap x (Marked n) = when (isChained x) (bucketByTwo cap (n .0) (x .a))
+abbrev pub holdBucket : ℕ → TraceRecord → Node → Option ℕ
+holdBucket cap x Missing = none
+holdBucket cap x (Marked n) = when (isChained x) (bucketByTwo cap (n .0) (x .a))
 
 unfoldable pub byHold : ℕ → Tells ℕ
-byHold cap x h = holdOf cap x (x .node)
+byHold cap x h = holdBucket cap x (x .node)
 
 -- every marked record, by its node
 abbrev pub nodeOf : ℕ → Node → Option ℕ

@@ -5,7 +5,7 @@ use Prim.Native.Nat.{ℕ}
 use lib.Dec.{eqb}
 use Rattle.record.specs.Records.{TraceRecord}
 use Rattle.rules.specs.History.{History, numberAfter, isKind, isBy}
-use Rattle.rules.specs.OneOwnerPerKey.{isHolding, isEnding, isHeld}
+use Rattle.rules.specs.OneOwnerPerKey.{isHolding, isEnding, hasHold}
 
 -- the number of the latest record that passes a test, judged by it and those before; 0 where none does
 unfoldable pub latestNumber : (TraceRecord → History → Bool) → History → ℕ
@@ -25,7 +25,7 @@ latestEnd node h = latestNumber (λ x _. endsAll node x) h
 
 -- a node comes to hold a range that it does not hold: what the Rust's `held_since` is given at
 abbrev pub newlyHolds : ℕ → TraceRecord → History → Bool
-newlyHolds node x h = isBy node x && isHolding x && not (isHeld node (x .a) h)
+newlyHolds node x h = isBy node x && isHolding x && not (hasHold node (x .a) h)
 
 abbrev pub latestNewly : ℕ → History → ℕ
 latestNewly node h = latestNumber (newlyHolds node) h
@@ -38,9 +38,9 @@ abbrev pub latestHold : ℕ → ℕ → History → ℕ
 latestHold node range h = latestNumber (λ x _. saysHold node range x) h
 
 -- the number of the record over whose span a node holds a range, 0 where it does not hold it
-unfoldable pub heldNumber : ℕ → ℕ → History → ℕ
-heldNumber node range [] = 0
-heldNumber node range (x ∷ h) =
+unfoldable pub holdNumber : ℕ → ℕ → History → ℕ
+holdNumber node range [] = 0
+holdNumber node range (x ∷ h) =
     cond (isBy node x)
-    (cond (isHolding x && eqb (x .a) range) (numberAfter h) (cond (isEnding range x) 0 (heldNumber node range h)))
-    (heldNumber node range h)
+    (cond (isHolding x && eqb (x .a) range) (numberAfter h) (cond (isEnding range x) 0 (holdNumber node range h)))
+    (holdNumber node range h)

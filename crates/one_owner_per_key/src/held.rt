@@ -22,7 +22,7 @@ ghost use Rattle.rules.specs.OneOwnerPerKey.{isHolding};
 ghost use Rattle.history.specs.Bounds.{Bounds};
 ghost use Rattle.history.specs.Buckets.{bucketBy, bucketByTwo};
 ghost use Rattle.history.specs.Logs.{hist};
-ghost use Rattle.one_owner_per_key.specs.Numbers.{latestBy, latestEnd, saysHold, latestHold, heldNumber};
+ghost use Rattle.one_owner_per_key.specs.Numbers.{latestBy, latestEnd, saysHold, latestHold, holdNumber};
 ghost use Rattle.one_owner_per_key.specs.Index.{OwnersIndexed};
 ghost use Rattle.one_owner_per_key.specs.Answers.{foundAt};
 
@@ -137,7 +137,7 @@ pub fn held_after(
 ) -> usize
     requires { ⌜ Bounds (now log) (now work) count cap × (top ≤ count) ⌝ }
     ensures within { λ r. ⌜ r ≤ top ⌝ }
-    ensures held { λ r. ⌜ (OwnersIndexed cap (hist (now (log .entry)) count) (now (work .entry)) → ended ≡ latestEnd (node .0) (hist (now (log .entry)) top) → r ≡ heldNumber (node .0) range (hist (now (log .entry)) top)) ⌝ }
+    ensures held { λ r. ⌜ (OwnersIndexed cap (hist (now (log .entry)) count) (now (work .entry)) → ended ≡ latestEnd (node .0) (hist (now (log .entry)) top) → r ≡ holdNumber (node .0) range (hist (now (log .entry)) top)) ⌝ }
 {
     let k = hold_of(log, work, count, cap, top, node, range);
     if k <= ended {
@@ -161,7 +161,7 @@ pub fn held_by(
     range: u64,
 ) -> Found
     requires { ⌜ Bounds (now log) (now work) count cap × (top ≤ count) ⌝ }
-    ensures { λ r. ⌜ (OwnersIndexed cap (hist (now (log .entry)) count) (now (work .entry)) → r ≡ foundAt (heldNumber (node .0) range (hist (now (log .entry)) top))) ⌝ }
+    ensures { λ r. ⌜ (OwnersIndexed cap (hist (now (log .entry)) count) (now (work .entry)) → r ≡ foundAt (holdNumber (node .0) range (hist (now (log .entry)) top))) ⌝ }
 {
     let last = latest_of(log, work, count, cap, top, node);
     let ended = end_by(work, cap, last);

@@ -19,7 +19,7 @@ ghost use lib.ListN.{length};
 ghost use Rattle.record.specs.Records.{decode};
 ghost use Rattle.rules.specs.History.{holds, lower};
 ghost use Rattle.rules.specs.Descriptors.{spanOf};
-ghost use Rattle.rules.specs.OneOwnerPerKey.{heldSpan, lowestMeeting};
+ghost use Rattle.rules.specs.OneOwnerPerKey.{holdOf, lowestMeeting};
 ghost use Rattle.rules.specs.OneOwnerPerKey as rule;
 ghost use Rattle.history.specs.Bounds.{Bounds};
 ghost use Rattle.history.specs.Logs.{hist};
@@ -76,7 +76,7 @@ fn is_met(
     k: usize,
 ) -> bool
     requires { ⌜ Bounds (now log) (now work) count cap × ((length (now rec) ≡ 368) × (k < 4)) ⌝ }
-    ensures { λ r. ⌜ (OwnersIndexed cap (hist (now (log .entry)) count) (now (work .entry)) → ended ≡ latestEnd (node .0) (hist (now (log .entry)) count) → r ≡ holds (rule.meets (spanOf k (decode (now (rec .entry))))) (heldSpan (node .0) range (hist (now (log .entry)) count))) ⌝ }
+    ensures { λ r. ⌜ (OwnersIndexed cap (hist (now (log .entry)) count) (now (work .entry)) → ended ≡ latestEnd (node .0) (hist (now (log .entry)) count) → r ≡ holds (rule.meets (spanOf k (decode (now (rec .entry))))) (holdOf (node .0) range (hist (now (log .entry)) count))) ⌝ }
 {
     let i = held_after(log, work, count, cap, count, node, range, ended);
     if i == 0 {
@@ -110,7 +110,7 @@ fn lowered(
     best: Meeting,
 ) -> Meeting
     requires { ⌜ Bounds (now log) (now work) count cap × ((length (now rec) ≡ 368) × (k < 4)) ⌝ }
-    ensures { λ r. ⌜ (OwnersIndexed cap (hist (now (log .entry)) count) (now (work .entry)) → ended ≡ latestEnd (node .0) (hist (now (log .entry)) count) → rangeIn r ≡ cond (answer.passes others (decode (now (rec .entry)) .spans) range && holds (rule.meets (spanOf k (decode (now (rec .entry))))) (heldSpan (node .0) range (hist (now (log .entry)) count))) (lower (λ n. n) range (rangeIn best)) (rangeIn best)) ⌝ }
+    ensures { λ r. ⌜ (OwnersIndexed cap (hist (now (log .entry)) count) (now (work .entry)) → ended ≡ latestEnd (node .0) (hist (now (log .entry)) count) → rangeIn r ≡ cond (answer.passes others (decode (now (rec .entry)) .spans) range && holds (rule.meets (spanOf k (decode (now (rec .entry))))) (holdOf (node .0) range (hist (now (log .entry)) count))) (lower (λ n. n) range (rangeIn best)) (rangeIn best)) ⌝ }
 {
     if is_below(range, best) {
         if passes(rec, others, range) {

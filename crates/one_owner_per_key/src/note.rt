@@ -23,7 +23,7 @@ ghost use Prim.Native.Nat.{_+_, _*_, _≤_, _<_};
 ghost use lib.ListN.{length};
 ghost use Rattle.record.specs.Records.{decode};
 ghost use Rattle.rules.specs.History.{isKind};
-ghost use Rattle.rules.specs.OneOwnerPerKey.{isHolding, isHeld};
+ghost use Rattle.rules.specs.OneOwnerPerKey.{isHolding, hasHold};
 ghost use Rattle.history.specs.Bounds.{Bounds};
 ghost use Rattle.history.specs.Buckets.{bucketByTwo};
 ghost use Rattle.history.specs.Logs.{hist};
@@ -66,7 +66,7 @@ fn newly(
 ) -> u64
     requires { ⌜ Bounds (now log) (now work) count cap × (length (now rec) ≡ 368) ⌝ }
     ensures within { λ r. ⌜ r ≤ 1 ⌝ }
-    ensures newly { λ r. ⌜ (OwnersIndexed cap (hist (now (log .entry)) count) (now (work .entry)) → ended ≡ latestEnd (node .0) (hist (now (log .entry)) count) → r ≡ bit (isHolding (decode (now (rec .entry))) && not (isHeld (node .0) (decode (now (rec .entry)) .a) (hist (now (log .entry)) count)))) ⌝ }
+    ensures newly { λ r. ⌜ (OwnersIndexed cap (hist (now (log .entry)) count) (now (work .entry)) → ended ≡ latestEnd (node .0) (hist (now (log .entry)) count) → r ≡ bit (isHolding (decode (now (rec .entry))) && not (hasHold (node .0) (decode (now (rec .entry)) .a) (hist (now (log .entry)) count)))) ⌝ }
 {
     if !is_holding(rec) {
         return 0;

@@ -23,7 +23,7 @@ use Rattle.rules.specs.declared.Verdict.the-variants.{Pass, Faulted}
 use Rattle.rules.specs.Cases.{isFault, faultIf, orCase, caseOf, earliestCase, firstCase}
 use Rattle.rules.specs.History.{History, isKind, isSome, anyOf, latestOf, greatestOf, lowestOf}
 use Rattle.rules.specs.Descriptors.{Entry, spanOf, heldEqb, samePlace, tellsPut, standing, stated, atIn, firstAtGeneration, putFault, putsDiffer, aheadFault, differsFault, statementFault, agreement}
-use Rattle.rules.specs.OneOwnerPerKey.{byMarked, isHolding, isHeld, lowestMeeting, groupOf, isNamed, overlapAt, installFault, installAt, twiceAt}
+use Rattle.rules.specs.OneOwnerPerKey.{byMarked, isHolding, hasHold, lowestMeeting, groupOf, isNamed, overlapAt, installFault, installAt, twiceAt}
 use Rattle.rules.specs.RightHalf.{Registered, registered, registers, isRegistered, owes, isMissing, nodesOf, lacks, missingFault, registeringFault, halfAt}
 use Rattle.rules.specs.GenerationsRise.{Write, hasEffect, tellsWrite, sameWrite, writes, opposes, isEarlier, writeFault, generationsAt}
 use Rattle.rules.specs.IdsUnique.{Grant, grantEqb, nonempty, shares, tellsGrant, sameIndex, firstGrants, blocksOf, grantFault, idsAt}
@@ -129,7 +129,7 @@ install-small tenant x h = small-marked (x .node) (λ n. small-if (isKind 8 x) (
 
 twice-small : (x : TraceRecord) (h : History) → Small (twiceAt x h)
 unfolding twiceAt
-twice-small x h = small-marked (x .node) (λ n. small-if (isKind 1 x && isHeld n (x .a) h) (small-fault 1 (omega arith) (omega arith)))
+twice-small x h = small-marked (x .node) (λ n. small-if (isKind 1 x && hasHold n (x .a) h) (small-fault 1 (omega arith) (omega arith)))
 
 missing-small : (kind node : ℕ) (h : History) → 0 < kind → kind < 256 → Small (missingFault kind node h)
 unfolding missingFault

@@ -1,7 +1,11 @@
-// The sizes and largest counts of the record form: each is written here and nowhere else in the code.
+// The sizes and largest counts of the record form. The code of every crate takes them from here; contracts spell them, as document
+// 01 does, and the places of single fields stand where they are read, in `field` and `form`.
 pub const RECORD_SIZE: usize = 368;
 
 pub const KEY_SIZE: usize = 32;
+
+// A span's two keys.
+pub const SPAN_SIZE: usize = 2 * KEY_SIZE;
 
 pub const KEY_LIMIT: u8 = 31;
 

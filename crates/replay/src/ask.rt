@@ -1,15 +1,12 @@
 // The look-ups of a trace: each question is put to the judge, and its answer held to the stored words.
 use crate::read;
 use crate::refusal::is_nothing;
-use judge::list::Listing;
-use judge::lookup::Counted;
 use judge::lookup::Looked;
-use judge::lookup::Told;
+use judge::lookup::Question;
 use judge::state::Judge;
-use rules::Found;
 
-// A question: which look-up, and its two numbers.
-struct Question {
+// A stored question: which look-up, and its two numbers.
+struct Stored {
     what: u64,
     first: u64,
     second: u64,
@@ -35,22 +32,11 @@ fn put(out: &mut [u64], word: u64) {
     }
 }
 
-fn record_number(found: Found) -> u64 {
-    match found {
-        Found::At(n) => n,
-        Found::Nothing => 0,
-    }
-}
-
-fn truth_number(holds: bool) -> u64 {
-    if holds { 1 } else { 0 }
-}
-
-fn of_looked(looked: Looked, out: &mut [u64]) -> Answer {
+// An answer that is a number.
+fn of_number(looked: Looked, out: &mut [u64]) -> Answer {
     let refusal = looked.refusal;
     let judge = looked.judge;
-    let found = looked.found;
-    put(out, record_number(found));
+    put(out, looked.value);
     Answer {
         judge: judge,
         words: 1,
@@ -58,46 +44,12 @@ fn of_looked(looked: Looked, out: &mut [u64]) -> Answer {
     }
 }
 
-fn of_counted(counted: Counted, out: &mut [u64]) -> Answer {
-    let refusal = counted.refusal;
-    let judge = counted.judge;
-    put(out, counted.count);
-    Answer {
-        judge: judge,
-        words: 1,
-        right: is_nothing(refusal),
-    }
-}
-
-fn of_told(told: Told, out: &mut [u64]) -> Answer {
-    let refusal = told.refusal;
-    let judge = told.judge;
-    put(out, truth_number(told.holds));
-    Answer {
-        judge: judge,
-        words: 1,
-        right: is_nothing(refusal),
-    }
-}
-
-// A list of nodes has one word an entry.
-fn of_nodes(listing: Listing) -> Answer {
-    let refusal = listing.refusal;
-    let judge = listing.judge;
-    let count = listing.count;
-    Answer {
-        judge: judge,
-        words: count as u64,
-        right: is_nothing(refusal),
-    }
-}
-
-// A list of blocks has three words an entry. No trace here has a hundred blocks.
-fn of_blocks(listing: Listing) -> Answer {
-    let refusal = listing.refusal;
-    let judge = listing.judge;
-    let count = listing.count;
-    if 100 < count {
+// A list with so many words an entry. No trace here has a hundred entries.
+fn of_list(looked: Looked, each: u64) -> Answer {
+    let refusal = looked.refusal;
+    let judge = looked.judge;
+    let count = looked.value;
+    if (100 < count) | (3 < each) {
         return Answer {
             judge: judge,
             words: 0,
@@ -106,22 +58,35 @@ fn of_blocks(listing: Listing) -> Answer {
     }
     Answer {
         judge: judge,
-        words: 3 * (count as u64),
+        words: each * count,
         right: is_nothing(refusal),
     }
 }
 
 // The judge's answer. A number that is no look-up's has none, and is wrong.
-fn answer_of(judge: Judge, log: &[u8], work: &[u64], q: Question, out: &mut [u64]) -> Answer {
+fn answer_of(judge: Judge, log: &[u8], work: &[u64], q: Stored, out: &mut [u64]) -> Answer {
     let what = q.what;
+    let first = q.first;
+    let second = q.second;
     match what {
-        1 => of_looked(judge.before(log, work, q.first, q.second), out),
-        2 => of_looked(judge.at(log, work, q.first, q.second), out),
-        3 => of_looked(judge.first_at_generation(log, work, q.first, q.second), out),
-        4 => of_counted(judge.statements(log, work), out),
-        5 => of_told(judge.is_empty(log, work), out),
-        6 => of_nodes(judge.holders_of(log, work, q.first, out)),
-        7 => of_blocks(judge.blocks(log, work, out)),
+        1 => of_number(
+            judge.look_up(log, work, Question::Before(first, second), out),
+            out,
+        ),
+        2 => of_number(
+            judge.look_up(log, work, Question::At(first, second), out),
+            out,
+        ),
+        3 => {
+            of_number(
+                judge.look_up(log, work, Question::FirstAtGeneration(first, second), out),
+                out,
+            )
+        }
+        4 => of_number(judge.look_up(log, work, Question::Statements, out), out),
+        5 => of_number(judge.look_up(log, work, Question::IsEmpty, out), out),
+        6 => of_list(judge.look_up(log, work, Question::HoldersOf(first), out), 1),
+        7 => of_list(judge.look_up(log, work, Question::Blocks, out), 3),
         _ => Answer {
             judge: judge,
             words: 0,
@@ -155,7 +120,7 @@ fn after_question(fd: i32, judge: Judge, log: &[u8], work: &[u64]) -> Asked {
     let what = read::one(fd);
     let first = read::eight(fd);
     let second = read::eight(fd);
-    let q = Question {
+    let q = Stored {
         what: what.value,
         first: first.value,
         second: second.value,

@@ -15,14 +15,13 @@ use Rattle.record.specs.Records.{TraceRecord}
 use Rattle.rules.specs.History.{History, isKind, isBy, when, orElse, isSome, holds, given, anyOf, addSome, latestOf, greater, greatestOf, firsts}
 use Rattle.rules.specs.GenerationsRise.{hasEffect}
 use Rattle.rules.specs.RightHalf.{Registered, serverOf, isRestated, isSplit, registered, isRegistered, registers, reaches, hasApplied, isVoter, ownDebt, owesByRegistering, registeringDebt, debtAt}
-use Rattle.rules.proofs.Booleans.{never, and-left, and-right, both, or-cases, or-left, or-right}
+use Rattle.rules.proofs.Booleans.{never, and-left, and-right, both, or-cases, or-left, or-right, decide, kind-apart}
 use Rattle.rules.proofs.Members.{Mem, here, there, mem-nil, Passing, anyOf-mem, anyOf-some}
 use Rattle.rules.proofs.Firsts.{add-mem}
 use Rattle.rules.proofs.Once.{registered-step}
+use Rattle.rules.proofs.OwnDebts.{isOwn, isCovered, ownByKind, own-kinds}
 use Rattle.history.specs.Logs.{recordAt, hist}
 use Rattle.history.proofs.Logs.{hist-none, hist-suc}
-use Rattle.rules.proofs.Booleans.{decide}
-use Rattle.one_owner_per_key.proofs.Marks.{kind-apart}
 use Rattle.right_half.specs.Walk.{applying, comes}
 
 -- ---- registered splits by place
@@ -98,10 +97,10 @@ greatest-any number p (x ∷ xs) = greatest-step number (p x) x (greatestOf numb
 
 module _ (node right : ℕ) (x : TraceRecord) (h : History) where
   abbrev ownTest : Registered → Bool
-  ownTest s = isSplit (x .a) (x .b) s && eqb (s .right) right && isVoter node h s
+  ownTest = isOwn node right x h
 
   abbrev reachTest : Registered → Bool
-  reachTest s = eqb (s .parent) (x .a) && leb (s .index) (x .c) && eqb (s .right) right && isVoter node h s
+  reachTest = isCovered node right x h
 
   own-some : (k m : Bool) → isSome (cond k (latestOf ownTest (registered h)) (cond m (greatestOf (λ s. s .index) reachTest (registered (x ∷ h))) none))
       ≡ cond k (anyOf ownTest (registered h)) (m && anyOf reachTest (registered (x ∷ h)))
@@ -129,9 +128,10 @@ module _ (node right : ℕ) (x : TraceRecord) (h : History) where
       ≡ ownPart || holds (owesByRegistering node right h) (registers x h)
   unfolding debtAt
   debt-some =
-      some-or (cond (isBy node x) (ownDebt node right x h) none) (registeringDebt node right x h)
+      some-or (ownDebt node right x h) (registeringDebt node right x h)
       ∙ ap (λ (b : Bool). b || isSome (registeringDebt node right x h))
-      (by-some (isBy node x) (ownDebt node right x h)
+      (ap isSome (own-kinds node right x h)
+      ∙ by-some (isBy node x) (ownByKind node right x h)
       ∙ ap (λ (b : Bool). isBy node x && b) (own-some (isKind 7 x || hasEffect Took x) (isKind 2 x && not (isRestated node h))))
       ∙ ap (λ (b : Bool). isBy node x && cond (isKind 7 x || hasEffect Took x) (anyOf ownTest (registered h)) (isKind 2 x && not (isRestated node h) && anyOf reachTest (registered (x ∷ h))) || b)
       (when-some (owesByRegistering node right h) (registers x h))

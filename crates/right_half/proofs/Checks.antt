@@ -17,14 +17,15 @@ use Rattle.rules.specs.declared.Case.the-variants.{Clear, Fault}
 use Rattle.rules.specs.History.{History, isKind, isBy, isSome, holds, anyOf, lowestOf}
 use Rattle.rules.specs.Cases.{fault, faultIf, orCase, caseOf}
 use Rattle.rules.specs.GenerationsRise.{hasEffect}
-use Rattle.rules.specs.OneOwnerPerKey.{byMarked, isHeld}
+use Rattle.rules.specs.OneOwnerPerKey.{byMarked, hasHold}
 use Rattle.rules.specs.RightHalf.{Registered, serverOf, isSplit, registered, isRegistered, registers, isVoter, owes, isMissing, missingFault, registeringFault, halfAt}
-use Rattle.rules.proofs.Booleans.{never, none-some, decide, and-left, and-right, both, or-cases, or-left, or-right}
+use Rattle.rules.proofs.Booleans.{never, none-some, decide, and-left, and-right, both, or-cases, or-left, or-right, kind-apart}
 use Rattle.rules.proofs.Members.{Mem}
+use Rattle.rules.proofs.Registering.{registers-none}
 use Rattle.rules.proofs.Candidates.{LowestOfAll}
 use Rattle.rules.proofs.Owed.{missing-right}
 use Rattle.history.specs.Logs.{recordAt, hist}
-use Rattle.one_owner_per_key.proofs.Marks.{kind-apart, and-none}
+use Rattle.one_owner_per_key.proofs.Marks.{and-none}
 use Rattle.one_owner_per_key.proofs.Latest.{number-bound, number-is}
 use Rattle.right_half.specs.Numbers.{registersAs, splitNumber, namedNumber}
 use Rattle.right_half.specs.Splits.{parentBy, rightBy, splitWith}
@@ -33,7 +34,7 @@ use Rattle.right_half.proofs.Splits.{known-is}
 use Rattle.right_half.proofs.Arising.{place-registered}
 use Rattle.right_half.proofs.Owing.{split-is}
 use Rattle.right_half.proofs.Searches.{named-range, range-of}
-use Rattle.right_half.proofs.Judging.{registers-none, restated-owes, restated-lowest, took-owes, took-missing}
+use Rattle.right_half.proofs.Judging.{restated-owes, restated-lowest, took-owes, took-missing}
 
 -- ---- a debt's fault
 
@@ -135,7 +136,7 @@ module _ (node : ℕ) (x : TraceRecord) (h : History) (b : isBy node x ≡ true)
   record Own (r : ℕ) : Type 0 where
     its : s .right ≡ r
     voter : isVoter node h s ≡ true
-    free : not (isHeld node r h) ≡ true
+    free : not (hasHold node r h) ≡ true
 
   -- what is missing now: the split's own right range, or what was missing before
   either : (r : ℕ) → next r ≡ true → Own r ⊎ (isMissing node h r ≡ true)
@@ -153,7 +154,7 @@ module _ (node : ℕ) (x : TraceRecord) (h : History) (b : isBy node x ≡ true)
       ∙ both (or-right (eqb (s .right) r && isVoter node h s) _ (and-left (isSome (owes node r h)) _ p)) (and-right (isSome (owes node r h)) _ p)
 
   -- its right range, where the node comes to owe it, does not hold it, and none below it was missing
-  pub took-own : {c : Case} → isVoter node h s && not (isHeld node (s .right) h) ≡ true → holds (λ k. ltb k (s .right)) (lowestMissing node h) ≡ false
+  pub took-own : {c : Case} → isVoter node h s && not (hasHold node (s .right) h) ≡ true → holds (λ k. ltb k (s .right)) (lowestMissing node h) ≡ false
       → c ≡ fault 1 (node ∷ x .a ∷ x .b ∷ s .right ∷ []) → c ≡ missingFault 1 node (x ∷ h)
   took-own {c} o l ec =
       let v = and-left (isVoter node h s) _ o in
@@ -175,7 +176,7 @@ module _ (node : ℕ) (x : TraceRecord) (h : History) (b : isBy node x ≡ true)
       some-same e = cc
 
   -- else what was missing before
-  module _ (other : isVoter node h s && not (isHeld node (s .right) h) ≡ true → holds (λ k. ltb k (s .right)) (lowestMissing node h) ≡ true) where
+  module _ (other : isVoter node h s && not (hasHold node (s .right) h) ≡ true → holds (λ k. ltb k (s .right)) (lowestMissing node h) ≡ true) where
     below : (r : ℕ) → Own r → holds (λ k. ltb k r) (lowestMissing node h) ≡ true
     below r w = rw (w .its) at other (both (w .voter) (w .free))
 
@@ -231,12 +232,12 @@ module _ (log : List ℕ) (n : ℕ) {k : ℕ} {x : TraceRecord} (w : Taken log n
 
   module _ (node : ℕ) {right m : ℕ} {y : TraceRecord} {r : Bool} {lowest : Option ℕ} (b : isBy node x ≡ true) (took : hasEffect Took x ≡ true) (ey : y ≡ recordAt log (k - 1))
       (em : m ≡ namedNumber (recordAt log (k - 1)) (hist log (k - 1))) (er : right ≡ rightBy log y m) (el : lowest ≡ lowestMissing node (hist log n))
-      (e : r ≡ anyOf (λ v. eqb v (serverOf node (hist log n) .0)) (y .voters) && not (isHeld node right (hist log n)) && not (holds (λ j. ltb j right) lowest)) where
+      (e : r ≡ anyOf (λ v. eqb v (serverOf node (hist log n) .0)) (y .voters) && not (hasHold node right (hist log n)) && not (holds (λ j. ltb j right) lowest)) where
     right-is : right ≡ w .split .right
     right-is =
         er ∙ ap (λ (z : TraceRecord). rightBy log z m) ey ∙ ap (rightBy log (recordAt log (k - 1))) em ∙ ap (λ (z : Registered). z .right) read
 
-    test-is : isVoter node (hist log n) (w .split) && not (isHeld node (w .split .right) (hist log n)) && not (holds (λ j. ltb j (w .split .right)) (lowestMissing node (hist log n))) ≡ r
+    test-is : isVoter node (hist log n) (w .split) && not (hasHold node (w .split .right) (hist log n)) && not (holds (λ j. ltb j (w .split .right)) (lowestMissing node (hist log n))) ≡ r
     test-is =
         let v : anyOf (λ v. eqb v (serverOf node (hist log n) .0)) (y .voters) ≡ isVoter node (hist log n) (w .split) =
         ap (λ (z : TraceRecord). anyOf (λ v. eqb v (serverOf node (hist log n) .0)) (z .voters)) ey ∙ ap (isVoter node (hist log n)) read in
@@ -246,8 +247,8 @@ module _ (log : List ℕ) (n : ℕ) {k : ℕ} {x : TraceRecord} (w : Taken log n
     pub taken-own : {c : Case} → r ≡ true → c ≡ fault 1 (node ∷ x .a ∷ x .b ∷ right ∷ []) → c ≡ missingFault 1 node (x ∷ hist log n)
     taken-own t ec =
         took-own node x (hist log n) b took (w .split) (w .mem) (w .its)
-        (and-left (isVoter node (hist log n) (w .split) && not (isHeld node (w .split .right) (hist log n))) _ (test-is ∙ t))
-        (not-true _ (and-right (isVoter node (hist log n) (w .split) && not (isHeld node (w .split .right) (hist log n))) _ (test-is ∙ t)))
+        (and-left (isVoter node (hist log n) (w .split) && not (hasHold node (w .split .right) (hist log n))) _ (test-is ∙ t))
+        (not-true _ (and-right (isVoter node (hist log n) (w .split) && not (hasHold node (w .split .right) (hist log n))) _ (test-is ∙ t)))
         (ec ∙ rw right-is)
 
     pub taken-other : {c : Case} → r ≡ false → c ≡ missingFault 1 node (hist log n) → c ≡ missingFault 1 node (x ∷ hist log n)

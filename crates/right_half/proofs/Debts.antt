@@ -16,6 +16,7 @@ use Rattle.rules.specs.GenerationsRise.{hasEffect}
 use Rattle.rules.specs.RightHalf.{Registered, serverOf, isRestated, isSplit, registered, hasApplied, reaches, isVoter, ownDebt, owesByRegistering, registeringDebt, cancels, debtAt, owes}
 use Rattle.rules.proofs.Booleans.{never, and-left, and-right, both, none-some}
 use Rattle.rules.proofs.Members.{Mem, anyOf-none}
+use Rattle.rules.proofs.OwnDebts.{own-kinds}
 use Rattle.rules.proofs.Placed.{Answer, placed-mem, latest-none}
 use Rattle.rules.proofs.Best.{Greatest, greatestOf-right}
 use Rattle.rules.proofs.Debts.{owes-nil, owes-cancelled, owes-arises, owes-kept}
@@ -279,15 +280,15 @@ module _ (x : TraceRecord) {k : ℕ} (e : k ≡ x .kind) where
 
 module _ (log : List ℕ) (at node right : ℕ) where
   abbrev own : Option Registered
-  own = cond (isBy node (recordAt log at)) (ownDebt node right (recordAt log at) (hist log at)) none
+  own = ownDebt node right (recordAt log at) (hist log at)
 
   pub own-other : isBy node (recordAt log at) ≡ false → Numbered log 0 own
-  own-other b = numbered-none log (rw b)
+  own-other b = numbered-none log (own-kinds node right (recordAt log at) (hist log at) ∙ rw b)
 
   module _ (b : isBy node (recordAt log at) ≡ true) where
     own-is : (t d : Bool) → isKind 7 (recordAt log at) || hasEffect Took (recordAt log at) ≡ t → isKind 2 (recordAt log at) && not (isRestated node (hist log at)) ≡ d
         → own ≡ cond t (appliedSplit log at right (serverOf node (hist log at) .0)) (cond d (coveredSplit log at right (serverOf node (hist log at) .0)) none)
-    own-is t d e f = rw (b, e, f)
+    own-is t d e f = own-kinds node right (recordAt log at) (hist log at) ∙ rw (b, e, f)
 
     pub own-applied : {k : ℕ} {server : ServerId} → isKind 7 (recordAt log at) || hasEffect Took (recordAt log at) ≡ true → server ≡ serverOf node (hist log at)
         → Numbered log k (appliedSplit log at right (server .0)) → Numbered log k own

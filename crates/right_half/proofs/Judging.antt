@@ -13,17 +13,17 @@ use Rattle.rules.specs.declared.Case.{Case}
 use Rattle.rules.specs.History.{History, isKind, isBy, isSome, addSome, latestOf, lower, lowestOf, orElse}
 use Rattle.rules.specs.Cases.{fault, caseOf}
 use Rattle.rules.specs.GenerationsRise.{hasEffect}
-use Rattle.rules.specs.OneOwnerPerKey.{isHolding, heldSpan, isHeld}
-use Rattle.rules.specs.RightHalf.{Registered, isRestated, isSplit, registered, registers, isVoter, ownDebt, registeringDebt, cancels, debtAt, owes, isMissing, missingFault}
-use Rattle.rules.proofs.Booleans.{never, and-left, and-right, both, or-cases}
+use Rattle.rules.specs.OneOwnerPerKey.{isHolding, holdOf, hasHold}
+use Rattle.rules.specs.RightHalf.{Registered, isRestated, isSplit, registered, isVoter, cancels, debtAt, owes, isMissing, missingFault}
+use Rattle.rules.proofs.Booleans.{never, and-left, and-right, both, or-cases, kind-apart}
 use Rattle.rules.proofs.Members.{Mem}
 use Rattle.rules.proofs.Debts.{owes-arises, owes-kept}
-use Rattle.rules.proofs.Once.{registered-step}
-use Rattle.one_owner_per_key.proofs.Marks.{kind-apart, and-none}
+use Rattle.rules.proofs.Registering.{registers-none, registered-same, registers-kind}
+use Rattle.rules.proofs.OwnDebts.{own-kinds}
+use Rattle.one_owner_per_key.proofs.Marks.{and-none}
 use Rattle.one_owner_per_key.proofs.Holds.{span-step}
 use Rattle.right_half.specs.Walk.{applying, comes}
 use Rattle.right_half.proofs.Arising.{Arisen, own, early, itself, arisen}
-use Rattle.right_half.proofs.Lacks.{registers-kind}
 use Rattle.right_half.proofs.Applied.{only-split}
 
 none-of : {A : Type 0} (o : Option A) → isSome o ≡ false → o ≡ none
@@ -48,21 +48,10 @@ comes-off node s x h e c =
     (and-left (isBy node x && eqb (x .a) (s .parent) && applying (s .index) x (isRestated node h)) _ c)) e
 
 module _ (x : TraceRecord) (h : History) (not-1 : isKind 1 x ≡ false) (not-2 : isKind 2 x ≡ false) where
-  -- a record that is neither of kind 1 nor of kind 2 registers nothing
-  no-split : (o : Option Registered) → registers x h ≡ o → o ≡ none
-  no-split none e = refl
-  no-split (some s) e = never (registers-kind x h e) (rw (not-1, not-2))
-
-  pub registers-none : registers x h ≡ none
-  registers-none = no-split (registers x h) refl
-
-  pub registered-same : registered (x ∷ h) ≡ registered h
-  registered-same = registered-step x h ∙ rw registers-none
-
-  -- and where it ends nothing, it leaves what is held
-  pub held-same : (node range : ℕ) → isKind 6 x ≡ false → isKind 9 x ≡ false → isKind 10 x ≡ false → isHeld node range (x ∷ h) ≡ isHeld node range h
+  -- a record that is neither of kind 1 nor of kind 2, and ends nothing, leaves what is held
+  pub held-same : (node range : ℕ) → isKind 6 x ≡ false → isKind 9 x ≡ false → isKind 10 x ≡ false → hasHold node range (x ∷ h) ≡ hasHold node range h
   held-same node range a b c =
-      let e : heldSpan node range (x ∷ h) ≡ heldSpan node range h = span-step node range x h ∙ rw (not-1, not-2, a, b, c) (either (isBy node x) (heldSpan node range h)) in
+      let e : holdOf node range (x ∷ h) ≡ holdOf node range h = span-step node range x h ∙ rw (not-1, not-2, a, b, c) (either (isBy node x) (holdOf node range h)) in
       ap isSome e
 
   -- ---- no debt but by its own application
@@ -96,7 +85,7 @@ module _ (node : ℕ) (x : TraceRecord) (h : History) (is : isKind 5 x ≡ true)
       owes-kept node right x h (rw (not-kind 9 (λ q. omega arith), not-kind 10 (λ q. omega arith)) (and-none (isBy node x)))
       (quiet-debt x h (not-kind 1 (λ q. omega arith)) (not-kind 2 (λ q. omega arith)) node right (not-kind 7 (λ q. omega arith)) (not-kind 3 (λ q. omega arith)))
 
-  pub restated-held : (range : ℕ) → isHeld node range (x ∷ h) ≡ isHeld node range h
+  pub restated-held : (range : ℕ) → hasHold node range (x ∷ h) ≡ hasHold node range h
   restated-held range =
       held-same x h (not-kind 1 (λ q. omega arith)) (not-kind 2 (λ q. omega arith)) node range (not-kind 6 (λ q. omega arith)) (not-kind 9 (λ q. omega arith)) (not-kind 10 (λ q. omega arith))
 
@@ -129,7 +118,7 @@ module _ (node : ℕ) (x : TraceRecord) (h : History) (b : isBy node x ≡ true)
     took-debt : debtAt node right x h ≡ latestOf test (registered h)
     unfolding debtAt
     took-debt =
-        rw (b, took-kind 7 (λ q. omega arith), took, registers-none x h (took-kind 1 (λ q. omega arith)) (took-kind 2 (λ q. omega arith))) (or-none (latestOf test (registered h)))
+        rw (own-kinds node right x h, b, took-kind 7 (λ q. omega arith), took, registers-none x h (took-kind 1 (λ q. omega arith)) (took-kind 2 (λ q. omega arith))) (or-none (latestOf test (registered h)))
 
     took-cases : (t : Bool) → its s ≡ t → owes node right (x ∷ h) ≡ cond t (some s) (owes node right h)
     took-cases t e =
@@ -146,7 +135,7 @@ module _ (node : ℕ) (x : TraceRecord) (h : History) (b : isBy node x ≡ true)
     pub took-owes : owes node right (x ∷ h) ≡ cond (its s) (some s) (owes node right h)
     took-owes = took-cases (its s) refl
 
-    pub took-held : isHeld node right (x ∷ h) ≡ isHeld node right h
+    pub took-held : hasHold node right (x ∷ h) ≡ hasHold node right h
     took-held =
         held-same x h (took-kind 1 (λ q. omega arith)) (took-kind 2 (λ q. omega arith)) node right (took-kind 6 (λ q. omega arith)) (took-kind 9 (λ q. omega arith)) (took-kind 10 (λ q. omega arith))
 
@@ -154,5 +143,5 @@ module _ (node : ℕ) (x : TraceRecord) (h : History) (b : isBy node x ≡ true)
     some-cond true o = refl
     some-cond false o = refl
 
-    pub took-missing : isMissing node (x ∷ h) right ≡ (its s || isSome (owes node right h)) && not (isHeld node right h)
+    pub took-missing : isMissing node (x ∷ h) right ≡ (its s || isSome (owes node right h)) && not (hasHold node right h)
     took-missing = rw (took-owes, took-held, some-cond (its s) (owes node right h))

@@ -11,25 +11,21 @@ use native.Mathlib.Decide.{ℕ-discrete, decLt}
 use lib.ListN.{length}
 use lib.Dec.{eqb, leb, ltb}
 use borrow.Author.Tests.{eqb-true, eqb-false, eq-eqb, ne-eqb, lt-ltb, le-ltb, not-true}
-use Rattle.record.specs.declared.named.Node.{Node}
-use Rattle.record.specs.declared.named.Node.the-variants.{Marked, Missing}
 use Rattle.record.specs.declared.named.ApplyEffect.the-variants.{Took}
-use Rattle.record.specs.declared.named.RangeCause.the-variants.{Split}
-use Rattle.record.specs.Named.{causeOf, causeNumber}
 use Rattle.record.specs.Records.{TraceRecord}
 use Rattle.rules.specs.declared.Found.{Found}
 use Rattle.rules.specs.declared.Found.the-variants.{At, Nothing}
-use Rattle.rules.specs.History.{History, isKind, isBy, when, orElse, isSome, holds, given, anyOf, latest}
+use Rattle.rules.specs.History.{History, isKind, isBy, when, orElse, isSome, holds, anyOf, latest}
 use Rattle.rules.specs.GenerationsRise.{hasEffect}
-use Rattle.rules.specs.OneOwnerPerKey.{isHeld}
-use Rattle.rules.specs.RightHalf.{Pending, usesUp, unlessKnown, Registered, createdSplit, pendingSplit, pending, splitBy, tellsSplit, registers, reaches, hasApplied, isVoter, serverOf, isRestated, cancels, debtAt, owes, tellsRestatedWith, restatedWith, lacks}
-use Rattle.rules.proofs.Booleans.{never, and-left, and-right, both, or-left, or-right}
+use Rattle.rules.specs.OneOwnerPerKey.{hasHold}
+use Rattle.rules.specs.RightHalf.{Registered, registers, reaches, hasApplied, isVoter, serverOf, isRestated, cancels, debtAt, owes, tellsRestatedWith, restatedWith, lacks}
+use Rattle.rules.proofs.Booleans.{never, and-left, and-right, both, or-right, decide, kind-apart}
+use Rattle.rules.proofs.Registering.{registers-kind}
 use Rattle.rules.proofs.Debts.{owes-arises, owes-kept}
 use Rattle.history.specs.Logs.{recordAt, hist}
 use Rattle.history.proofs.Logs.{hist-none, hist-length, hist-suc}
 use Rattle.one_owner_per_key.specs.Numbers.{latestNumber}
-use Rattle.rules.proofs.Booleans.{decide}
-use Rattle.one_owner_per_key.proofs.Marks.{kind-apart, and-none}
+use Rattle.one_owner_per_key.proofs.Marks.{and-none}
 use Rattle.one_owner_per_key.proofs.Latest.{number-none, number-bound, number-is, number-over, at-hit, at-miss}
 use Rattle.right_half.specs.Numbers.{restatedNumber, refuses, refusedNumber, isRegistering, latestRegistering, namedNumber, cancelNumber}
 use Rattle.right_half.specs.Splits.{parentBy, rightBy, splitWith, splitAs}
@@ -105,15 +101,15 @@ module _ (node range : ℕ) (log : List ℕ) where
   tf = λ x _. refuses node x
 
   abbrev heldAs : ℕ → Bool
-  heldAs n = cond (ltb (refusedNumber node (hist log n)) (restatedNumber node (hist log n))) (isHeld node range (hist log (restatedNumber node (hist log n) - 1))) false
+  heldAs n = cond (ltb (refusedNumber node (hist log n)) (restatedNumber node (hist log n))) (hasHold node range (hist log (restatedNumber node (hist log n) - 1))) false
 
   -- the step, where the node stays restated
   with-step : (n : ℕ) (b u v z : Bool) → isBy node (recordAt log n) ≡ b → isKind 5 (recordAt log n) ≡ u → isKind 6 (recordAt log n) ≡ v → isKind 10 (recordAt log n) ≡ z
       → (0 < restatedNumber node (hist log n) → restatedWith node range (hist log n) ≡ heldAs n)
       → 0 < cond b (cond u (suc n) (cond v 0 (restatedNumber node (hist log n)))) (restatedNumber node (hist log n))
-      → holds (λ (t : Bool). t) (orElse (when (b && (u || z)) (u && isHeld node range (hist log n))) (latest (tellsRestatedWith node range) (hist log n)))
+      → holds (λ (t : Bool). t) (orElse (when (b && (u || z)) (u && hasHold node range (hist log n))) (latest (tellsRestatedWith node range) (hist log n)))
       ≡ cond (ltb (refusedNumber node (hist log (suc n))) (cond b (cond u (suc n) (cond v 0 (restatedNumber node (hist log n)))) (restatedNumber node (hist log n))))
-      (isHeld node range (hist log (cond b (cond u (suc n) (cond v 0 (restatedNumber node (hist log n)))) (restatedNumber node (hist log n)) - 1))) false
+      (hasHold node range (hist log (cond b (cond u (suc n) (cond v 0 (restatedNumber node (hist log n)))) (restatedNumber node (hist log n)) - 1))) false
   unfolding restatedWith
   with-step n true true v z eb eu ev ez i l =
       let q : refusedNumber node (hist log (suc n)) ≡ refusedNumber node (hist log n) = at-miss tf log n (rw (eb, kind-apart 5 10 (recordAt log n) (λ q. omega arith) eu)) in
@@ -136,7 +132,7 @@ module _ (node range : ℕ) (log : List ℕ) where
       ap (restatedNumber node) (hist-suc log n) ∙ restated-step node x (hist log n) ∙ rw hist-length in
       ap (λ (h : History). holds (λ (t : Bool). t) (latest (tellsRestatedWith node range) h)) (hist-suc log n)
       ∙ with-step n (isBy node x) (isKind 5 x) (isKind 6 x) (isKind 10 x) refl refl refl refl (restated-with n) (rw e at l)
-      ∙ ap (λ (k : ℕ). cond (ltb (refusedNumber node (hist log (suc n))) k) (isHeld node range (hist log (k - 1))) false) (sym e)
+      ∙ ap (λ (k : ℕ). cond (ltb (refusedNumber node (hist log (suc n))) k) (hasHold node range (hist log (k - 1))) false) (sym e)
 
 -- what the code makes of the two numbers
 module _ (node range : ℕ) (log : List ℕ) (n : ℕ) {k f : ℕ} (ek : k ≡ restatedNumber node (hist log n)) (ef : f ≡ refusedNumber node (hist log n)) (is : isRestated node (hist log n) ≡ true) where
@@ -146,7 +142,7 @@ module _ (node range : ℕ) (log : List ℕ) (n : ℕ) {k f : ℕ} (ek : k ≡ r
   pub with-dropped : k ≤ f → false ≡ restatedWith node range (hist log n)
   with-dropped l = sym (restated-with node range log n known ∙ rw (le-ltb (refusedNumber node (hist log n)) (restatedNumber node (hist log n)) (omega arith)))
 
-  pub with-held : {b : Bool} → f < k → isHeld node range (hist log (k - 1)) ≡ b → b ≡ restatedWith node range (hist log n)
+  pub with-held : {b : Bool} → f < k → hasHold node range (hist log (k - 1)) ≡ b → b ≡ restatedWith node range (hist log n)
   with-held {b} l e =
       sym (restated-with node range log n known
       ∙ rw (lt-ltb (refusedNumber node (hist log n)) (restatedNumber node (hist log n)) (omega arith), ← ek) e)
@@ -160,40 +156,6 @@ or-case false b e f g = g e
 when-test : {A : Type 0} (b : Bool) (a : A) {v : A} → when b a ≡ some v → b ≡ true
 when-test true a e = refl
 when-test false a e = let z : _≡_ {A = ℕ} 0 1 = cc in absurd (omega arith)
-
-given-some : (h : History) (o : Option Registered) {s : Registered} → given (unlessKnown h) o ≡ some s → isSome o ≡ true
-given-some h none e = let z : _≡_ {A = ℕ} 0 1 = cc in absurd (omega arith)
-given-some h (some t) e = refl
-
-pending-kind : (x : TraceRecord) (o : Option Pending) → isSome (pendingSplit x o) ≡ true → isKind 2 x ≡ true
-pending-kind x none e = never e refl
-pending-kind x (some p) e = go (usesUp x p) refl e
-  where
-    go : (b : Bool) → usesUp x p ≡ b → isSome (when {A = Registered} b (record { parent = p .parent; index = p .index; right = p .right; voters = x .voters })) ≡ true → isKind 2 x ≡ true
-    go true f g = and-left (isKind 2 x) _ (and-left (isKind 2 x && eqb (x .a) (p .parent)) _ f)
-    go false f g = never g refl
-
-created-kind : (x : TraceRecord) → isSome (createdSplit x) ≡ true → isKind 1 x ≡ true
-created-kind x e = go (isKind 1 x) refl e
-  where
-    go : (b : Bool) → isKind 1 x ≡ b
-        → isSome (when {A = Registered} (b && eqb (causeNumber (causeOf (x .code))) (causeNumber Split) && eqb (x .flag) 1) (record { parent = x .c; index = x .b; right = x .a; voters = x .voters })) ≡ true
-        → isKind 1 x ≡ true
-    go true f g = f
-    go false f g = never g refl
-
-tells-kind : (x : TraceRecord) (h : History) (m : Node) → isSome (splitBy x h m) ≡ true → isKind 1 x || isKind 2 x ≡ true
-tells-kind x h Missing e = never e refl
-tells-kind x h (Marked m) e = go (createdSplit x) refl e
-  where
-    go : (o : Option Registered) → createdSplit x ≡ o → isSome (orElse o (pendingSplit x (pending (m .0) h))) ≡ true → isKind 1 x || isKind 2 x ≡ true
-    go (some s) f g = or-left (isKind 1 x) (isKind 2 x) (created-kind x (ap isSome f))
-    go none f g = or-right (isKind 1 x) (isKind 2 x) (pending-kind x (pending (m .0) h) g)
-
--- a registering record is of kind 1 or 2
-pub registers-kind : (x : TraceRecord) (h : History) {s : Registered} → registers x h ≡ some s → isKind 1 x || isKind 2 x ≡ true
-unfolding registers
-registers-kind x h r = tells-kind x h (x .node) (given-some h (tellsSplit x h) r)
 
 module _ (x : TraceRecord) (h : History) (node : ℕ) (s : Registered) (r : registers x h ≡ some s) where
   other-kind : (k : ℕ) → (1 ≡ k → ⊥) → (2 ≡ k → ⊥) → isKind k x ≡ false

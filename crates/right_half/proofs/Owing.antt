@@ -11,16 +11,14 @@ use lib.ListN.{length}
 use lib.Dec.{eqb, leb, ltb, eqb·suc-zero}
 use borrow.Author.Tests.{ltb-true, lt-ltb, le-ltb, le-leb, leb-true, eqb-true}
 use Rattle.record.specs.Records.{TraceRecord}
-use Rattle.rules.specs.History.{History, isKind, isBy, when, orElse, isSome, holds, given, anyOf, latest}
+use Rattle.rules.specs.History.{History, becomes, ends, lasting, isKind, isBy, when, orElse, isSome, holds, given, anyOf, latest}
 use Rattle.rules.specs.RightHalf.{Registered, serverOf, isRestated, isSplit, isRegistered, unlessKnown, registers, tellsSplit, tellsRecorded, recorded, reaches, hasApplied, isVoter, cancels, debtAt, owes}
-use Rattle.rules.proofs.Booleans.{never, and-left, and-right, both, or-cases, or-left, or-right}
+use Rattle.rules.proofs.Booleans.{never, and-left, and-right, both, or-cases, or-left, or-right, decide, kind-apart}
 use Rattle.rules.proofs.Debts.{owes-nil, owes-cancelled, owes-arises, owes-kept}
 use Rattle.rules.proofs.Traced.{isTraced, tellsTraced, applied-traced}
 use Rattle.history.specs.Logs.{recordAt, hist}
 use Rattle.history.proofs.Logs.{hist-none, hist-length, hist-suc}
 use Rattle.one_owner_per_key.specs.Numbers.{latestNumber}
-use Rattle.rules.proofs.Booleans.{decide}
-use Rattle.one_owner_per_key.proofs.Marks.{kind-apart}
 use Rattle.one_owner_per_key.proofs.Latest.{passesAt, number-none, number-bound, number-is, number-over, at-hit, at-miss}
 use Rattle.right_half.specs.declared.owed.Asked.the-variants.{Removed, Traced, Recording}
 use Rattle.right_half.specs.Numbers.{refuses, refusedNumber, cancelNumber, debtNumber, namedNumber}
@@ -75,8 +73,8 @@ module _ (node range : ℕ) (log : List ℕ) where
 
   recorded-step : (n : ℕ) (b k a m z : Bool) → isBy node (recordAt log n) ≡ b → isKind 2 (recordAt log n) ≡ k → eqb (recordAt log n .a) range ≡ a
       → not (isRestated node (hist log n)) ≡ m → isKind 10 (recordAt log n) ≡ z
-      → given (λ i. i) (latest (tellsRecorded node range) (hist log n)) ≡ recordedAs n
-      → given (λ (i : Option ℕ). i) (orElse (cond b (cond (k && a && m) (some (some (recordAt log n .c))) (when z none)) none) (latest (tellsRecorded node range) (hist log n))) ≡ recordedAs (suc n)
+      → lasting (latest (tellsRecorded node range) (hist log n)) ≡ recordedAs n
+      → lasting (orElse (cond b (cond (k && a && m) (some (becomes (recordAt log n .c))) (when z ends)) none) (latest (tellsRecorded node range) (hist log n))) ≡ recordedAs (suc n)
   unfolding asks
   recorded-step n true true true true z eb ek ea em ez i =
       let p : passesAt tr log n ≡ true = rw (eb, ea, ek, em) in
@@ -119,7 +117,7 @@ module _ (node range : ℕ) (log : List ℕ) where
   recorded-is zero = rw (hist-none, number-none tr, number-none tf)
   recorded-is (suc n) =
       let x = recordAt log n in
-      ap (λ (h : History). given (λ (i : Option ℕ). i) (latest (tellsRecorded node range) h)) (hist-suc log n)
+      ap (λ (h : History). lasting (latest (tellsRecorded node range) h)) (hist-suc log n)
       ∙ recorded-step n (isBy node x) (isKind 2 x) (eqb (x .a) range) (not (isRestated node (hist log n))) (isKind 10 x) refl refl refl refl refl (recorded-is n)
 
 -- ---- as of the registering

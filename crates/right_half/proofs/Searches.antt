@@ -16,13 +16,13 @@ use Rattle.record.specs.Records.{TraceRecord}
 use Rattle.rules.specs.declared.Found.{Found}
 use Rattle.rules.specs.declared.Found.the-variants.{At, Nothing}
 use Rattle.rules.specs.History.{History, isKind, isSome, when, lower, lowestOf}
-use Rattle.rules.specs.OneOwnerPerKey.{isHeld}
+use Rattle.rules.specs.OneOwnerPerKey.{hasHold}
 use Rattle.rules.specs.RightHalf.{Registered, createdSplit, pendingSplit, pending, registered, isRegistered, registers, isMissing, owes}
 use Rattle.rules.proofs.Booleans.{never, and-left, and-right, both}
 use Rattle.rules.proofs.Candidates.{LowestOfAll}
 use Rattle.rules.proofs.Owed.{missing-right}
 use Rattle.history.specs.Logs.{recordAt, hist}
-use Rattle.one_owner_per_key.specs.Numbers.{latestNumber, heldNumber}
+use Rattle.one_owner_per_key.specs.Numbers.{latestNumber, holdNumber}
 use Rattle.one_owner_per_key.specs.Index.{wordBy}
 use Rattle.one_owner_per_key.specs.Answers.{foundAt}
 use Rattle.rules.proofs.Booleans.{decide}
@@ -41,41 +41,41 @@ use Rattle.right_half.proofs.Owing.{split-is, split-owes, SplitOwing, o
 
 -- ---- what is held
 
-pub held-at : (node right : ℕ) (h : History) {f : Found} {k : ℕ} → f ≡ foundAt (heldNumber node right h) → f ≡ At k → isHeld node right h ≡ true
-held-at node right h {f} {k} e g = held-some node right h ∙ go (eqb (heldNumber node right h) 0) refl
+pub held-at : (node right : ℕ) (h : History) {f : Found} {k : ℕ} → f ≡ foundAt (holdNumber node right h) → f ≡ At k → hasHold node right h ≡ true
+held-at node right h {f} {k} e g = held-some node right h ∙ go (eqb (holdNumber node right h) 0) refl
   where
-    go : (t : Bool) → eqb (heldNumber node right h) 0 ≡ t → not t ≡ true
+    go : (t : Bool) → eqb (holdNumber node right h) 0 ≡ t → not t ≡ true
     go true q = let w : At k ≡ Nothing = sym g ∙ e ∙ rw q in let z : _≡_ {A = ℕ} 0 1 = cc in absurd (omega arith)
     go false q = refl
 
-pub held-not : (node right : ℕ) (h : History) {f : Found} → f ≡ foundAt (heldNumber node right h) → f ≡ Nothing → isHeld node right h ≡ false
-held-not node right h {f} e g = held-some node right h ∙ go (eqb (heldNumber node right h) 0) refl
+pub held-not : (node right : ℕ) (h : History) {f : Found} → f ≡ foundAt (holdNumber node right h) → f ≡ Nothing → hasHold node right h ≡ false
+held-not node right h {f} e g = held-some node right h ∙ go (eqb (holdNumber node right h) 0) refl
   where
-    go : (t : Bool) → eqb (heldNumber node right h) 0 ≡ t → not t ≡ false
+    go : (t : Bool) → eqb (holdNumber node right h) 0 ≡ t → not t ≡ false
     go true q = refl
     go false q =
-        let w : At (heldNumber node right h) ≡ Nothing = sym (e ∙ rw q) ∙ g in
+        let w : At (holdNumber node right h) ≡ Nothing = sym (e ∙ rw q) ∙ g in
         let z : _≡_ {A = ℕ} 0 1 = cc in
         absurd (omega arith)
 
 -- .. by the number of the record that it is held by
-module _ (node right : ℕ) (h : History) {k : ℕ} (e : k ≡ heldNumber node right h) where
-  pub held-over : (k ≡ 0 → ⊥) → isHeld node right h ≡ true
+module _ (node right : ℕ) (h : History) {k : ℕ} (e : k ≡ holdNumber node right h) where
+  pub held-over : (k ≡ 0 → ⊥) → hasHold node right h ≡ true
   held-over z = held-some node right h ∙ rw (← e, ne-eqb k 0 z)
 
-  pub held-zero : k ≡ 0 → isHeld node right h ≡ false
+  pub held-zero : k ≡ 0 → hasHold node right h ≡ false
   held-zero z = held-some node right h ∙ rw (← e, eq-eqb k 0 z)
 
 module _ (log : List ℕ) (n node t right : ℕ) where
-  pub lacks-held : isHeld node right (hist log n) ≡ true → false ≡ lacksSplit log n node t right
+  pub lacks-held : hasHold node right (hist log n) ≡ true → false ≡ lacksSplit log n node t right
   unfolding lacksSplit
   lacks-held e = rw e
 
   pub lacks-away : t < n → hasPart log n node (recordAt log t) ≡ false → false ≡ lacksSplit log n node t right
   unfolding lacksSplit
-  lacks-away l e = rw (← owes-away log n node t (cancelNumber node right (hist log n)) l e) (sym (and-none (not (isHeld node right (hist log n)))))
+  lacks-away l e = rw (← owes-away log n node t (cancelNumber node right (hist log n)) l e) (sym (and-none (not (hasHold node right (hist log n)))))
 
-  pub lacks-owes : {r : Bool} {c : ℕ} → isHeld node right (hist log n) ≡ false → c ≡ cancelNumber node right (hist log n) → r ≡ owesSplit log n node t c → r ≡ lacksSplit log n node t right
+  pub lacks-owes : {r : Bool} {c : ℕ} → hasHold node right (hist log n) ≡ false → c ≡ cancelNumber node right (hist log n) → r ≡ owesSplit log n node t c → r ≡ lacksSplit log n node t right
   unfolding lacksSplit
   lacks-owes e f g = g ∙ rw (e, f)
 
@@ -144,9 +144,9 @@ module _ (log : List ℕ) (n node : ℕ) where
   lacks-missing : (t right : ℕ) (s : Registered) → t < n → registers (recordAt log t) (hist log t) ≡ some s → s .right ≡ right → lacksSplit log n node t right ≡ true → isMissing node (hist log n) right ≡ true
   unfolding lacksSplit
   lacks-missing t right s l r e h =
-      let o = and-right (not (isHeld node right (hist log n))) _ h in
+      let o = and-right (not (hasHold node right (hist log n))) _ h in
       both (ap (λ (k : ℕ). isSome (owes node k (hist log n))) (sym e) ∙ split-owes log n node s t l r refl (ap (λ (k : ℕ). owesSplit log n node t (cancelNumber node k (hist log n))) e ∙ o))
-      (and-left (not (isHeld node right (hist log n))) _ h)
+      (and-left (not (hasHold node right (hist log n))) _ h)
 
   pub search-first : {i : ℕ} → i ≡ latestRegistering (hist log n) → Searching log n node i none
   search-first {i} e = record {
@@ -196,7 +196,7 @@ module _ (log : List ℕ) (n node : ℕ) where
       let e : a ≡ b = omega arith in
       ap some e
 
-  lacking : (r t : ℕ) → not (isHeld node r (hist log n)) ≡ true → owesSplit log n node t (cancelNumber node r (hist log n)) ≡ true → lacksSplit log n node t r ≡ true
+  lacking : (r t : ℕ) → not (hasHold node r (hist log n)) ≡ true → owesSplit log n node t (cancelNumber node r (hist log n)) ≡ true → lacksSplit log n node t r ≡ true
   unfolding lacksSplit
   lacking r t p q = both p q
 

@@ -25,8 +25,7 @@ use Rattle.history.proofs.Logs.{hist-length}
 use Rattle.history.proofs.Chains.{In}
 use Rattle.one_owner_per_key.specs.Numbers.{latestNumber}
 use Rattle.one_owner_per_key.specs.Index.{wordBy}
-use Rattle.rules.proofs.Booleans.{never, decide, and-left, and-right}
-use Rattle.one_owner_per_key.proofs.Marks.{kind-apart}
+use Rattle.rules.proofs.Booleans.{never, decide, and-left, and-right, kind-apart}
 use Rattle.one_owner_per_key.proofs.Latest.{number-none, number-step}
 use Rattle.one_owner_per_key.proofs.Walks.{Within}
 use Rattle.right_half.specs.Numbers.{pendingNumber, isRegistering, registersAs, splitNumber, namesNumber, namedNumber}

@@ -20,9 +20,9 @@ use Rattle.history.specs.Logs.{recordAt, hist}
 use Rattle.history.specs.Columns.{Column, cellOf}
 use Rattle.history.proofs.Logs.{hist-suc}
 use Rattle.one_owner_per_key.specs.Numbers.{latestNumber}
-use Rattle.one_owner_per_key.specs.Index.{isChained, holdOf, byHold}
-use Rattle.rules.proofs.Booleans.{never, decide, and-left, and-right}
-use Rattle.one_owner_per_key.proofs.Marks.{and-none, or-all, by-marked, kind-apart}
+use Rattle.one_owner_per_key.specs.Index.{isChained, holdBucket, byHold}
+use Rattle.rules.proofs.Booleans.{never, decide, and-left, and-right, kind-apart}
+use Rattle.one_owner_per_key.proofs.Marks.{and-none, or-all, by-marked}
 use Rattle.right_half.proofs.Tests.{or-none}
 use Rattle.one_owner_per_key.proofs.Latest.{number-bound}
 use Rattle.one_owner_per_key.proofs.Walks.{Walking, Within}
@@ -131,7 +131,7 @@ chained-by : (cap node range : ℕ) (x : TraceRecord) (h : History) → isBy nod
     → byHold cap x h ≡ some (bucketByTwo cap node range)
 unfolding byHold
 chained-by cap node range x h b a k =
-    by-marked (λ n. when (isChained x) (bucketByTwo cap n (x .a))) (holdOf cap x) (λ n. refl) node (x .node) b ∙ rw (k, eqb-true (x .a) range a)
+    by-marked (λ n. when (isChained x) (bucketByTwo cap n (x .a))) (holdBucket cap x) (λ n. refl) node (x .node) b ∙ rw (k, eqb-true (x .a) range a)
 
 in-2 : (a b c d e : Bool) → b ≡ true → a || b || c || d || e ≡ true
 in-2 true b c d e h = refl

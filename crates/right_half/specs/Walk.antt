@@ -11,7 +11,7 @@ use Rattle.record.specs.Records.{TraceRecord}
 use Rattle.rules.specs.History.{History, isKind, isBy, anyOf, lower}
 use Rattle.rules.specs.declared.Found.{Found}
 use Rattle.rules.specs.declared.Found.the-variants.{At, Nothing}
-use Rattle.rules.specs.OneOwnerPerKey.{isHeld}
+use Rattle.rules.specs.OneOwnerPerKey.{hasHold}
 use Rattle.rules.specs.GenerationsRise.{hasEffect}
 use Rattle.rules.specs.RightHalf.{Registered, serverOf, isRestated}
 use Rattle.history.specs.Logs.{recordAt, hist}
@@ -85,7 +85,7 @@ owesSplit log n node t c =
 -- ---- what a node lacks by that split: it owes it and does not hold its right range
 
 unfoldable pub lacksSplit : List ℕ → ℕ → ℕ → ℕ → ℕ → Bool
-lacksSplit log n node t right = not (isHeld node right (hist log n)) && owesSplit log n node t (cancelNumber node right (hist log n))
+lacksSplit log n node t right = not (hasHold node right (hist log n)) && owesSplit log n node t (cancelNumber node right (hist log n))
 
 -- the number that was found
 abbrev pub foundIn : Found → Option ℕ

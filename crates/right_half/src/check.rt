@@ -32,7 +32,7 @@ ghost use Rattle.record.specs.Records.{decode};
 ghost use Rattle.rules.specs.History.{isKind, isBy, anyOf, holds, lowestOf};
 ghost use Rattle.rules.specs.Cases.{fault, caseOf};
 ghost use Rattle.rules.specs.GenerationsRise.{hasEffect};
-ghost use Rattle.rules.specs.OneOwnerPerKey.{isHeld};
+ghost use Rattle.rules.specs.OneOwnerPerKey.{hasHold};
 ghost use Rattle.rules.specs.RightHalf.{Registered, serverOf, registered, registers, owes, isMissing, missingFault, registeringFault, halfAt};
 ghost use Rattle.history.specs.Logs.{hist};
 ghost use Rattle.history.specs.Bounds.{Bounds};
@@ -134,7 +134,7 @@ fn is_lowest(
     lowest: Found,
 ) -> bool
     requires { ⌜ Bounds (now log) (now work) count cap × (length (now found) ≡ 368) ⌝ }
-    ensures { λ r. ⌜ (Known cap (hist (now (log .entry)) count) (now (work .entry)) → r ≡ (anyOf (λ v. eqb v (serverOf (node .0) (hist (now (log .entry)) count) .0)) (decode (now (found .entry)) .voters) && not (isHeld (node .0) right (hist (now (log .entry)) count)) && not (holds (λ b. ltb b right) (foundIn lowest)))) ⌝ }
+    ensures { λ r. ⌜ (Known cap (hist (now (log .entry)) count) (now (work .entry)) → r ≡ (anyOf (λ v. eqb v (serverOf (node .0) (hist (now (log .entry)) count) .0)) (decode (now (found .entry)) .voters) && not (hasHold (node .0) right (hist (now (log .entry)) count)) && not (holds (λ b. ltb b right) (foundIn lowest)))) ⌝ }
 {
     if is_above(right, lowest) {
         return false;

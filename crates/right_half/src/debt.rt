@@ -16,10 +16,10 @@ use record::named::NodeId;
 use record::named::ServerId;
 ghost use mathlib.Core.Path.{_≡_};
 ghost use mathlib.Core.Bool.{true, cond, _&&_};
-ghost use mathlib.Core.Option.{none, some};
+ghost use mathlib.Core.Option.{some};
 ghost use Prim.Native.Nat.{_+_, _*_, _≤_, _<_, max};
 ghost use lib.ListN.{length};
-ghost use Rattle.rules.specs.History.{isBy, isSome, holds};
+ghost use Rattle.rules.specs.History.{isSome, holds};
 ghost use Rattle.rules.specs.RightHalf.{Registered, ownDebt, debtAt, owes};
 ghost use Rattle.history.specs.Logs.{hist, recordAt};
 ghost use Rattle.history.specs.Bounds.{Bounds};
@@ -177,7 +177,7 @@ fn own_debt(
 ) -> usize
     requires { ⌜ Bounds (now log) (now work) count cap × (at < count) ⌝ }
     ensures within { λ r. ⌜ r ≤ at + 1 ⌝ }
-    ensures is { λ r. ⌜ (Known cap (hist (now (log .entry)) count) (now (work .entry)) → Numbered (now (log .entry)) r (cond (isBy (node .0) (recordAt (now (log .entry)) at)) (ownDebt (node .0) right (recordAt (now (log .entry)) at) (hist (now (log .entry)) at)) none)) ⌝ }
+    ensures is { λ r. ⌜ (Known cap (hist (now (log .entry)) count) (now (work .entry)) → Numbered (now (log .entry)) r (ownDebt (node .0) right (recordAt (now (log .entry)) at) (hist (now (log .entry)) at))) ⌝ }
 {
     let rec = record_at(log, at);
     if !is_by(rec, node) {

@@ -3,7 +3,10 @@ use mathlib.Core.Path.{_≡_, refl, sym, ap, _∙_}
 use mathlib.Core.Bool.{Bool, true, false, true≢false, _&&_, _||_}
 use mathlib.Core.Option.{none, some}
 use mathlib.Core.Logic.{_⊎_, inl, inr}
-use Rattle.rules.specs.History.{isSome}
+use Prim.Native.Nat.{ℕ}
+use borrow.Author.Tests.{eqb-true, ne-eqb}
+use Rattle.record.specs.Records.{TraceRecord}
+use Rattle.rules.specs.History.{isKind, isSome}
 
 pub decide : (b : Bool) → (b ≡ true) ⊎ (b ≡ false)
 decide true = inl refl
@@ -33,6 +36,10 @@ or-left a b e = rw e
 pub or-right : (a b : Bool) → b ≡ true → (a || b) ≡ true
 or-right true b e = refl
 or-right false b e = e
+
+-- a record has one kind
+pub kind-apart : (j k : ℕ) (x : TraceRecord) → (j ≡ k → ⊥) → isKind j x ≡ true → isKind k x ≡ false
+kind-apart j k x n e = ne-eqb (x .kind) k (λ q. n (sym (eqb-true (x .kind) j e) ∙ q))
 
 pub none-some : {A B : Type 0} {a : A} → none ≡ some a → B
 none-some e = never (ap isSome e) refl

@@ -10,9 +10,9 @@ use borrow.Author.Tests.{eqb-true}
 use Rattle.record.specs.declared.named.Node.{Node}
 use Rattle.record.specs.declared.named.Node.the-variants.{Marked, Missing}
 use Rattle.record.specs.Records.{Span, TraceRecord}
-use Rattle.rules.specs.History.{History, isKind, byNode, isBy, when, orElse, isSome, holds, given, addSome, lowestOf, latest, told}
+use Rattle.rules.specs.History.{History, isKind, byNode, isBy, when, orElse, Change, becomes, ends, lasting, isSome, holds, addSome, lowestOf, latest, told}
 use Rattle.rules.specs.Descriptors.{spanOf}
-use Rattle.rules.specs.OneOwnerPerKey.{isHolding, isEnding, tellsHold, heldSpan, rangesOf, meets, lowestMeeting}
+use Rattle.rules.specs.OneOwnerPerKey.{isHolding, isEnding, tellsHold, holdOf, rangesOf, meets, lowestMeeting}
 use Rattle.rules.specs.RightHalf.{tellsRestated, isRestated, nodeNumber, nodesOf, Registered, lacks}
 use Rattle.rules.proofs.Booleans.{decide, never, and-left, and-right}
 use Rattle.rules.proofs.Members.{Mem, here, there}
@@ -40,32 +40,32 @@ holds-some p (some a) e = refl
 
 -- ---- a range that a node holds is one that it was made to hold
 
-held-next : (s : Span) (l : Option (Option Span)) (a r : ℕ) (rs : List ℕ) (b k e d : Bool) → (e ≡ true → a ≡ r)
-    → (isSome (given (λ s. s) l) ≡ true → Mem r rs)
-    → isSome (given (λ s. s) (orElse (cond b (cond (k && e) (some (some s)) (when d none)) none) l)) ≡ true
+hold-next : (s : Span) (l : Option (Change Span)) (a r : ℕ) (rs : List ℕ) (b k e d : Bool) → (e ≡ true → a ≡ r)
+    → (isSome (lasting l) ≡ true → Mem r rs)
+    → isSome (lasting (orElse (cond b (cond (k && e) (some (becomes s)) (when d ends)) none) l)) ≡ true
     → Mem r (addSome (when (b && k) a) rs)
-held-next s l a r rs true true true d f g q = rw (f refl) here
-held-next s l a r rs true true false true f g q = never q refl
-held-next s l a r rs true true false false f g q = there (g q)
-held-next s l a r rs true false e true f g q = never q refl
-held-next s l a r rs true false e false f g q = g q
-held-next s l a r rs false k e d f g q = g q
+hold-next s l a r rs true true true d f g q = rw (f refl) here
+hold-next s l a r rs true true false true f g q = never q refl
+hold-next s l a r rs true true false false f g q = there (g q)
+hold-next s l a r rs true false e true f g q = never q refl
+hold-next s l a r rs true false e false f g q = g q
+hold-next s l a r rs false k e d f g q = g q
 
-pub held-range : (node range : ℕ) (h : History) → isSome (heldSpan node range h) ≡ true → Mem range (rangesOf node h)
-unfolding heldSpan latest rangesOf told
-held-range node range [] q = never q refl
-held-range node range (x ∷ h) q =
-    held-next (spanOf 0 x) (latest (tellsHold node range) h) (x .a) range (rangesOf node h) (isBy node x) (isHolding x) (eqb (x .a) range) (isEnding range x)
+pub hold-range : (node range : ℕ) (h : History) → isSome (holdOf node range h) ≡ true → Mem range (rangesOf node h)
+unfolding holdOf latest rangesOf told
+hold-range node range [] q = never q refl
+hold-range node range (x ∷ h) q =
+    hold-next (spanOf 0 x) (latest (tellsHold node range) h) (x .a) range (rangesOf node h) (isBy node x) (isHolding x) (eqb (x .a) range) (isEnding range x)
     (eqb-true (x .a) range)
-    (held-range node range h)
+    (hold-range node range h)
     q
 
 pub lowestMeeting-right : (p : ℕ → Bool) (s : Span) (node : ℕ) (h : History)
-    → LowestOfAll (λ r. p r && holds (meets s) (heldSpan node r h)) (lowestMeeting p s node h)
+    → LowestOfAll (λ r. p r && holds (meets s) (holdOf node r h)) (lowestMeeting p s node h)
 unfolding lowestMeeting
 lowestMeeting-right p s node h =
-    candidates-suffice (λ r. p r && holds (meets s) (heldSpan node r h)) (rangesOf node h)
-    (λ r e. held-range node r h (holds-some (meets s) (heldSpan node r h) (and-right (p r) _ e)))
+    candidates-suffice (λ r. p r && holds (meets s) (holdOf node r h)) (rangesOf node h)
+    (λ r e. hold-range node r h (holds-some (meets s) (holdOf node r h) (and-right (p r) _ e)))
 
 -- ---- a node that is restated has a record
 

@@ -7,13 +7,13 @@ use Rattle.rules.specs.History.{anyOf, those, latestOf, earliestOf, grea
 use Rattle.rules.specs.Cases.{earliestCase, firstCase}
 use Rattle.rules.specs.Descriptors.{heldBy, heldEqb, applied, reached, roleOf, standing, stated, beforeIn, atIn, firstAtGenerationIn, putFault, putsDiffer, aheadFault, differsFault, statementFault, agreement, before, firstAtGeneration}
 use Rattle.rules.specs.IdsUnique.{firstGrants, grantEqb, blocksOf, idsAt}
-use Rattle.rules.specs.OneOwnerPerKey.{heldSpan, rangesOf, lowestMeeting, overlapAt, groupOf, isNamed, installAt, twiceAt}
+use Rattle.rules.specs.OneOwnerPerKey.{holdOf, rangesOf, lowestMeeting, overlapAt, groupOf, isNamed, installAt, twiceAt}
 use Rattle.rules.specs.GenerationsRise.{writes, generationsAt}
-use Rattle.rules.specs.RightHalf.{serverOf, isRestated, pending, registered, registers, recorded, hasApplied, debtAt, owes, restatedWith, missingFault, nodesOf, registeringFault, halfAt}
+use Rattle.rules.specs.RightHalf.{serverOf, isRestated, pending, registered, registers, recorded, hasApplied, ownDebt, debtAt, owes, restatedWith, missingFault, nodesOf, registeringFault, halfAt}
 use Rattle.rules.specs.MetaNeverGoesBack.{names, standingName, keyFault, bounds, leastKey, wonFault, metaAt}
 use Rattle.rules.specs.Reports.{reportOf}
 use Rattle.rules.specs.Examples.{Row, table, answer}
 
 pub examples : map answer table ≡ map (λ (r : Row). r .report) table
-unfolding keyLtb listEqb bigEndianFrom anyOf those latestOf earliestOf greatestOf lowestOf told latest firsts earliestCase firstCase heldBy heldEqb applied reached roleOf standing stated beforeIn atIn firstAtGenerationIn putFault putsDiffer aheadFault differsFault statementFault agreement before firstAtGeneration firstGrants grantEqb blocksOf idsAt heldSpan rangesOf lowestMeeting overlapAt groupOf isNamed installAt twiceAt writes generationsAt serverOf isRestated pending registered registers recorded hasApplied debtAt owes restatedWith missingFault nodesOf registeringFault halfAt names standingName keyFault bounds leastKey wonFault metaAt reportOf
+unfolding keyLtb listEqb bigEndianFrom anyOf those latestOf earliestOf greatestOf lowestOf told latest firsts earliestCase firstCase heldBy heldEqb applied reached roleOf standing stated beforeIn atIn firstAtGenerationIn putFault putsDiffer aheadFault differsFault statementFault agreement before firstAtGeneration firstGrants grantEqb blocksOf idsAt holdOf rangesOf lowestMeeting overlapAt groupOf isNamed installAt twiceAt writes generationsAt serverOf isRestated pending registered registers recorded hasApplied ownDebt debtAt owes restatedWith missingFault nodesOf registeringFault halfAt names standingName keyFault bounds leastKey wonFault metaAt reportOf
 examples = refl

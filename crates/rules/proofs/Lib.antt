@@ -19,6 +19,8 @@ pub mod LookUps
 -- ids
 pub mod Blocks
 -- owners, and the right half
+pub mod Registering
+pub mod OwnDebts
 pub mod Debts
 pub mod Candidates
 pub mod Owed

@@ -1,16 +1,12 @@
--- Membership in a list, and a place in it.
+-- Laws of membership in a list.
 use mathlib.Core.Path.{_≡_, refl, ap, _∙_}
 use mathlib.Core.Bool.{Bool, true, false, cond}
 use mathlib.Core.List.{List, [], _∷_, _++_}
 use mathlib.Core.Logic.{⊎-elim}
+pub use Rattle.rules.specs.History.{Mem, here, there}
 use Rattle.rules.specs.History.{anyOf, those}
 use Rattle.rules.proofs.Booleans.{decide, never, or-cases, or-left, or-right}
 use Rattle.rules.proofs.Skips.{those-nil, those-hit, those-skip}
-
--- x is an element of the list
-pub data Mem {A : Type 0} : A → List A → Type 0 where
-  here : {x : A} {xs : List A} → Mem x (x ∷ xs)
-  there : {x y : A} {xs : List A} → Mem x xs → Mem x (y ∷ xs)
 
 module _ {A : Type 0} where
   pub mem-nil : {B : Type 0} {x : A} → Mem x [] → B

@@ -8,11 +8,10 @@ use borrow.Author.Tests.{not-true}
 use Rattle.record.specs.Keys.{Key, keyLtb, inside, Lt, Le}
 use Rattle.record.specs.Records.{TraceRecord}
 use Rattle.rules.specs.declared.Case.{Case}
-use Rattle.rules.specs.declared.Case.the-variants.{Clear}
 use Rattle.rules.specs.History.{greatestOf}
 use Rattle.rules.specs.Cases.{isFault, caseOf}
 use Rattle.rules.specs.Descriptors.{spanOf}
-use Rattle.rules.specs.MetaNeverGoesBack.{Name, covers, standingName, nameFault, keyFault, bounds, leastKey, wonFault}
+use Rattle.rules.specs.MetaNeverGoesBack.{Name, covers, standingName, nameFault, keyFault, bounds, leastKey, wonFault, FirstFaultyKey, FirstFaulty, at, clean}
 use Rattle.rules.proofs.Booleans.{decide, never, and-left, and-right}
 use Rattle.record.proofs.Keys.{lt-or-le, clash, le-le-eq, lt-lt-lt, le-lt-lt, le-le-le}
 use Rattle.rules.proofs.Members.{Mem, here, there}
@@ -44,19 +43,7 @@ keyFault-between x ns {c} {k} h g = ap (caseOf (nameFault x)) (standing-same k c
 
 -- ---- the least faulty key
 
--- k is the least key from s up to e that is faulty, of all keys
-pub record FirstFaultyKey (f : Key → Case) (s e k : Key) : Type 0 where
-  pub low : Le s k
-  pub high : Lt k e
-  pub faulty : isFault (f k) ≡ true
-  pub before : (j : Key) → Le s j → Lt j k → isFault (f j) ≡ false
-
--- the fault at that key, or nothing where no key is faulty
-pub data FirstFaulty (f : Key → Case) (s e : Key) (c : Case) : Type 0 where
-  at : (k : Key) → FirstFaultyKey f s e k → c ≡ f k → FirstFaulty f s e c
-  clean : ((k : Key) → Le s k → Lt k e → isFault (f k) ≡ false) → c ≡ Clear → FirstFaulty f s e c
-
--- there is one such fault
+-- there is one fault at the first faulty piece
 module _ {f : Key → Case} {s e : Key} where
   key-below : {k j : Key} → FirstFaultyKey f s e k → FirstFaultyKey f s e j → Le k j
   key-below {k} {j} a b = ⊎-elim (λ (l : Lt j k). never (b .faulty) (a .before j (b .low) l)) (λ l. l) (lt-or-le j k)

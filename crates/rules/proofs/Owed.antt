@@ -1,19 +1,17 @@
 -- What is owed was registered, with that right range: so the lowest missing one is the lowest of all ranges.
 use mathlib.Core.Path.{_≡_, refl, subst}
-use mathlib.Core.Bool.{Bool, true, false, cond, not, _&&_, _||_}
+use mathlib.Core.Bool.{Bool, true, false, _&&_}
 use mathlib.Core.List.{List, [], _∷_, map}
 use mathlib.Core.Option.{Option, none, some}
 use Prim.Native.Nat.{ℕ}
-use lib.Dec.{eqb, leb}
+use lib.Dec.{eqb}
 use borrow.Author.Tests.{eqb-true}
-use Rattle.record.specs.declared.named.ApplyEffect.the-variants.{Took}
 use Rattle.record.specs.Records.{TraceRecord}
-use Rattle.rules.specs.History.{History, isKind, isBy, when, orElse, isSome, given, addSome, latestOf, greatestOf, lowestOf}
-use Rattle.rules.specs.GenerationsRise.{hasEffect}
-use Rattle.rules.specs.RightHalf.{Registered, registered, registers, isRestated, isSplit, isVoter, ownDebt, owesByRegistering, registeringDebt, cancels, debtAt, owes, isMissing}
+use Rattle.rules.specs.History.{History, when, orElse, isSome, given, addSome, greatestOf, lowestOf}
+use Rattle.rules.specs.RightHalf.{Registered, registered, registers, applies, isVoter, ownDebt, owesByRegistering, registeringDebt, cancels, debtAt, owes, isMissing}
 use Rattle.rules.proofs.Booleans.{never, and-left, and-right}
 use Rattle.rules.proofs.Members.{Mem, here, there}
-use Rattle.rules.proofs.Placed.{Placed, Answer, Latest, latestOf-right, placed-mem}
+use Rattle.rules.proofs.Placed.{Placed, Answer, placed-mem}
 use Rattle.rules.proofs.Best.{Greatest, greatestOf-right}
 use Rattle.rules.proofs.Firsts.{add-mem}
 use Rattle.rules.proofs.Once.{registered-step}
@@ -35,21 +33,10 @@ module _ (right : ℕ) (ss : List Registered) where
   due-or none b d e = e
   due-or (some s) b d e = d
 
-  due-cond : (k : Bool) (a b : Option Registered) → DueIf right ss a → DueIf right ss b → DueIf right ss (cond k a b)
-  due-cond true a b d e = d
-  due-cond false a b d e = e
-
   -- what is found among them by a test that asks for the right range
   module _ (p : Registered → Bool) (its : (s : Registered) → p s ≡ true → s .right ≡ right) where
     due-placed : {s : Registered} → Placed p ss s → Due right ss s
     due-placed {s} w = record { mem = placed-mem w; its = its s (w .passes) }
-
-    latest-by : (o : Option Registered) → Answer (Latest p ss) p ss o → DueIf right ss o
-    latest-by none h = tt
-    latest-by (some s) h = due-placed (h .place)
-
-    latest-due : DueIf right ss (latestOf p ss)
-    latest-due = latest-by (latestOf p ss) (latestOf-right p ss)
 
     greatest-by : (o : Option Registered) → Answer (Greatest (λ s. s .index) p ss) p ss o → DueIf right ss o
     greatest-by none h = tt
@@ -73,33 +60,22 @@ module _ (node right : ℕ) (x : TraceRecord) (h : History) where
   due-more none d = tt
   due-more (some s) d = record { mem = rw (registered-step x h) (add-mem (registers x h) (d .mem)); its = d .its }
 
-  -- the tests of the record's own debts
-  abbrev isOwn : Registered → Bool
-  isOwn s = isSplit (x .a) (x .b) s && eqb (s .right) right && isVoter node h s
+  -- the record's own debt
+  abbrev isOwed : Registered → Bool
+  isOwed s = applies node (s .parent) (s .index) x h && eqb (s .right) right && isVoter node h s
 
-  own-its : (s : Registered) → isOwn s ≡ true → s .right ≡ right
-  own-its s e = eqb-true _ _ (and-right (isSplit (x .a) (x .b) s) _ (and-left _ (isVoter node h s) e))
-
-  abbrev isReached : Registered → Bool
-  isReached s = eqb (s .parent) (x .a) && leb (s .index) (x .c) && eqb (s .right) right && isVoter node h s
-
-  reached-its : (s : Registered) → isReached s ≡ true → s .right ≡ right
-  reached-its s e = eqb-true _ _ (and-right (eqb (s .parent) (x .a) && leb (s .index) (x .c)) _ (and-left _ (isVoter node h s) e))
+  owed-its : (s : Registered) → isOwed s ≡ true → s .right ≡ right
+  owed-its s e = eqb-true _ _ (and-right (applies node (s .parent) (s .index) x h) _ (and-left _ (isVoter node h s) e))
 
   own-due : DueIf right (registered (x ∷ h)) (ownDebt node right x h)
-  own-due =
-      due-cond right (registered (x ∷ h)) (isKind 7 x || hasEffect Took x) _ _
-      (due-more (latestOf isOwn (registered h)) (latest-due right (registered h) isOwn own-its))
-      (due-cond right (registered (x ∷ h)) (isKind 2 x && not (isRestated node h)) (greatestOf (λ s. s .index) isReached (registered (x ∷ h))) none
-      (greatest-due right (registered (x ∷ h)) isReached reached-its)
-      tt)
+  unfolding ownDebt
+  own-due = greatest-due right (registered (x ∷ h)) isOwed owed-its
 
   -- the debt that arises
   pub debt-due : DueIf right (registered (x ∷ h)) (debtAt node right x h)
   unfolding debtAt
   debt-due =
-      due-or right (registered (x ∷ h)) (cond (isBy node x) (ownDebt node right x h) none) (registeringDebt node right x h)
-      (due-cond right (registered (x ∷ h)) (isBy node x) (ownDebt node right x h) none own-due tt)
+      due-or right (registered (x ∷ h)) (ownDebt node right x h) (registeringDebt node right x h) own-due
       (registering-next (registers x h) (registered-step x h))
 
   owes-next : (k : Bool) (o : Option Registered) → cancels node right x ≡ k → debtAt node right x h ≡ o → DueIf right (registered (x ∷ h)) o

@@ -88,11 +88,11 @@ module _ (has : History → Type 0) (caseAt : History → Case) where
       omega arith
 
   first-report : (h : History) {n m : ℕ} {c d : Case} → FirstFault has caseAt h n c → FirstFault has caseAt h m d
-      → asReport (position (first n h)) c ≡ asReport (position (first m h)) d
+      → asReport n c ≡ asReport m d
   first-report h {n} {m} {c} {d} a b =
       let p : n ≡ m = first-place h a b in
       let q : c ≡ d = sym (a .case) ∙ ap (λ (k : ℕ). caseAt (first k h)) p ∙ b .case in
-      λ i. asReport (position (first (p i) h)) (q i)
+      λ i. asReport (p i) (q i)
 
   first-kept : (x : TraceRecord) (h : History) {n : ℕ} {c : Case} → FirstFault has caseAt h n c → FirstFault has caseAt (x ∷ h) n c
   first-kept x h {n} a =
@@ -112,17 +112,16 @@ module _ (has : History → Type 0) (caseAt : History → Case) where
   -- a report as it has to be: a pass and no beginning with the fault, or the first fault
   pub data Judged (h : History) (r : Report) : Type 0 where
     clean : r ≡ passed → Free h → Judged h r
-    faulty : (n kind : ℕ) (e : Evidence) → r ≡ faulted (position (first n h)) kind e → FirstFault has caseAt h n (Fault kind e) → Judged h r
+    faulty : (n kind : ℕ) (e : Evidence) → r ≡ faulted n kind e → FirstFault has caseAt h n (Fault kind e) → Judged h r
 
-  is-first : (h : History) (r : Report) (n kind : ℕ) (e : Evidence) → r ≡ faulted n kind e → Judged h r
-      → (m : ℕ) × (n ≡ position (first m h)) × FirstFault has caseAt h m (Fault kind e)
+  is-first : (h : History) (r : Report) (n kind : ℕ) (e : Evidence) → r ≡ faulted n kind e → Judged h r → FirstFault has caseAt h n (Fault kind e)
   is-first h r n kind e q (clean p none) = passed-or n kind e (sym p ∙ q)
   is-first h r n kind e q (faulty m k d p x) =
-      let t : faulted (position (first m h)) k d ≡ faulted n kind e = sym p ∙ q in
-      (m, sym (ap (λ (z : Report). z .at) t), subst (λ (z : Report). FirstFault has caseAt h m (caseBy (z .verdict) (z .evidence))) t x)
+      let t : faulted m k d ≡ faulted n kind e = sym p ∙ q in
+      subst (λ (z : Report). FirstFault has caseAt h (z .at) (caseBy (z .verdict) (z .evidence))) t x
 
   is-fault : (h : History) (r : Report) (n kind : ℕ) (e : Evidence) → FirstFault has caseAt h n (Fault kind e) → Judged h r
-      → r ≡ faulted (position (first n h)) kind e
+      → r ≡ faulted n kind e
   is-fault h r n kind e a (clean p none) = absurd (none n (a .within) (a .here))
   is-fault h r n kind e a (faulty m k d p x) = p ∙ first-report h x a
 
@@ -163,7 +162,7 @@ module _ (has : History → Type 0) (caseAt : History → Case) where
     judged-clean x h Clear q p none = clean (reportOf-clear caseAt x h p q) (free-more x h q none)
     judged-clean x h (Fault kind e) q p none =
         faulty (length (x ∷ h)) kind e
-        (reportOf-fault caseAt x h kind e p q ∙ ap (λ (g : History). faulted (position g) kind e) (sym (first-all (x ∷ h))))
+        (reportOf-fault caseAt x h kind e p q)
         (record {
           within = omega arith;
           here = subst has (sym (first-all (x ∷ h))) (last (x ∷ h) (ap isFault q));
@@ -176,11 +175,7 @@ module _ (has : History → Type 0) (caseAt : History → Case) where
     judged (x ∷ h) = elim (judged h) [
       | clean p none ↦ judged-clean x h (caseAt (x ∷ h)) refl p none
       | faulty n kind e p a ↦
-          faulty n kind e
-          (reportOf-kept caseAt x h kind (ap (λ (r : Report). r .verdict) p)
-          ∙ p
-          ∙ ap (λ (g : History). faulted (position g) kind e) (sym (first-later n x h (a .within))))
-          (first-kept x h a)
+          faulty n kind e (reportOf-kept caseAt x h kind (ap (λ (r : Report). r .verdict) p) ∙ p) (first-kept x h a)
     ]
 
     pub right : (h : History) → Right has caseAt h (reportOf caseAt h)

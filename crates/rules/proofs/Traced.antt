@@ -7,7 +7,7 @@ use Prim.Native.Nat.{ℕ}
 use lib.Dec.{eqb}
 use Rattle.record.specs.Records.{TraceRecord}
 use Rattle.rules.specs.History.{History, isKind, isBy, when, holds, addSome, latest}
-use Rattle.rules.specs.RightHalf.{Registered, isSplit, registered, isRegistered, registers, reaches, appliesItself, tellsApplies, hasApplied}
+use Rattle.rules.specs.RightHalf.{Registered, isSplit, registered, isRegistered, registers, reaches, applies, tellsApplies, hasApplied}
 use Rattle.rules.proofs.Members.{here, anyOf-none, none-anyOf}
 use Rattle.rules.proofs.Firsts.{add-mem}
 use Rattle.rules.proofs.Once.{registered-step}
@@ -27,7 +27,7 @@ module _ (node parent index : ℕ) where
       (λ s m. anyOf-none (isSplit parent index) (registered (x ∷ h)) e s (rw (registered-step x h) (add-mem (registers x h) m)))
 
   module _ (x : TraceRecord) (h : History) (e : isRegistered parent index (x ∷ h) ≡ false) where
-    itself-traced : appliesItself node parent index x h ≡ isTraced x
+    itself-traced : applies node parent index x h ≡ isTraced x
     itself-traced = simp (e, unregistered-before x h e, and-false, or-false)
 
     not-registering : (o : Option Registered) → registered (x ∷ h) ≡ addSome o (registered h)

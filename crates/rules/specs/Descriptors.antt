@@ -16,6 +16,7 @@ use Rattle.record.specs.Named.{causeOf, stateOf, stateNumber}
 use Rattle.record.specs.Records.{Span, TraceRecord}
 use Rattle.rules.specs.declared.Case.{Case}
 use Rattle.rules.specs.declared.Case.the-variants.{Clear}
+use Rattle.rules.specs.Views.{rangeOf, generationBy, appliedBy, createdBy, descriptorBy}
 use Rattle.rules.specs.History.{History, numberAfter, isKind, isBy, when, orElse, isSome, holds, anyOf, latest, told, firsts, latestOf, earliestOf, greatestOf, lowestOf}
 use Rattle.rules.specs.Cases.{fault, faultIf, orCase, caseOf, earliestCase}
 
@@ -37,7 +38,7 @@ heldState x = cond (isKind 1 x) Live (stateOf (x .code))
 
 -- the value that a RangeCreated or a RangeDescriptor has
 unfoldable pub heldBy : TraceRecord → Held
-heldBy x = record { start = spanOf 0 x .start; end = spanOf 0 x .end; generation = x .d; voters = x .voters; state = heldState x }
+heldBy x = record { start = spanOf 0 x .start; end = spanOf 0 x .end; generation = generationBy x; voters = x .voters; state = heldState x }
 
 -- two values are the same
 unfoldable pub heldEqb : Held → Held → Bool
@@ -48,9 +49,9 @@ heldEqb v w =
     && listEqb (v .voters) (w .voters)
     && eqb (stateNumber (v .state)) (stateNumber (w .state))
 
--- "The applied index of (node, range) is that of the latest marked kind 1 (floor), 3 (index) or 4 (applied)": its number B
+-- "The applied index of (node, range) is that of the latest marked kind 1 (floor), 3 (index) or 4 (applied)"
 abbrev pub tellsApplied : ℕ → ℕ → TraceRecord → History → Option ℕ
-tellsApplied node range x h = when (isBy node x && (isKind 1 x || isKind 3 x || isKind 4 x) && eqb (x .a) range) (x .b)
+tellsApplied node range x h = when (isBy node x && (isKind 1 x || isKind 3 x || isKind 4 x) && eqb (rangeOf x) range) (appliedBy x)
 
 unfoldable pub applied : ℕ → ℕ → History → Option ℕ
 applied node range h = latest (tellsApplied node range) h
@@ -58,7 +59,7 @@ applied node range h = latest (tellsApplied node range) h
 -- "a statement at its applied index when marked and a known applied index is at least that"
 unfoldable pub reached : TraceRecord → History → Node → Bool
 reached x h Missing = false
-reached x h (Marked n) = holds (λ known. leb (x .c) known) (applied (n .0) (x .a) h)
+reached x h (Marked n) = holds (λ known. leb (descriptorBy x .applied) known) (applied (n .0) (descriptorBy x .range) h)
 
 -- what a record does: it puts its value at an index, states it at one, or neither
 pub data Role : Type 0 where
@@ -74,11 +75,13 @@ createdRole Snapshot floor = states floor
 
 -- "A RangeDescriptor is a statement at its applied index ..; else a put at its index"
 abbrev pub descriptorRole : Bool → TraceRecord → Role
-descriptorRole true x = states (x .c)
-descriptorRole false x = puts (x .b)
+descriptorRole true x = states (descriptorBy x .applied)
+descriptorRole false x = puts (descriptorBy x .index)
 
 unfoldable pub roleOf : TraceRecord → History → Role
-roleOf x h = cond (isKind 1 x) (createdRole (causeOf (x .code)) (x .b)) (cond (isKind 2 x) (descriptorRole (reached x h (x .node)) x) neither)
+roleOf x h =
+    cond (isKind 1 x) (createdRole (causeOf (x .code)) (createdBy x .floor))
+    (cond (isKind 2 x) (descriptorRole (reached x h (x .node)) x) neither)
 
 -- a value at an index of a range, put or stated, with the number of its record
 pub record Entry : Type 0 where
@@ -88,7 +91,7 @@ pub record Entry : Type 0 where
   pub number : ℕ
 
 abbrev pub entryAt : ℕ → TraceRecord → History → Entry
-entryAt index x h = record { range = x .a; index = index; held = heldBy x; number = numberAfter h }
+entryAt index x h = record { range = rangeOf x; index = index; held = heldBy x; number = numberAfter h }
 
 abbrev pub putBy : Role → TraceRecord → History → Option Entry
 putBy (puts i) x h = some (entryAt i x h)

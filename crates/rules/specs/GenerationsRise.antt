@@ -12,6 +12,7 @@ use Rattle.record.specs.Named.{effectOf, effectNumber}
 use Rattle.record.specs.Records.{TraceRecord}
 use Rattle.rules.specs.declared.Case.{Case}
 use Rattle.rules.specs.declared.Case.the-variants.{Clear}
+use Rattle.rules.specs.Views.{applyBy}
 use Rattle.rules.specs.History.{History, isKind, when, anyOf, holds, firsts, latestOf}
 use Rattle.rules.specs.Cases.{fault, faultIf, caseOf}
 use Rattle.rules.specs.Descriptors.{Entry, spanOf, before}
@@ -35,7 +36,12 @@ generationOf (some v) = some (v .held .generation)
 abbrev pub tellsWrite : TraceRecord → History → Option Write
 tellsWrite x h =
     when (hasEffect Applied x && leb 1 (length (x .spans)))
-    (record { range = x .a; index = x .b; key = spanOf 0 x .start; generation = generationOf (before (x .a) (x .b) h) })
+    (record {
+      range = applyBy x .range;
+      index = applyBy x .index;
+      key = spanOf 0 x .start;
+      generation = generationOf (before (applyBy x .range) (applyBy x .index) h);
+    })
 
 abbrev pub sameWrite : Write → Write → Bool
 sameWrite w o = eqb (w .range) (o .range) && eqb (w .index) (o .index)

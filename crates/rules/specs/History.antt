@@ -33,6 +33,16 @@ isBy n x = byNode n (x .node)
 abbrev pub Tells : Type 0 → Type 0
 Tells A = TraceRecord → History → Option A
 
+-- what a record tells of something that lasts: it becomes this, or it ends
+pub data Change (A : Type 0) : Type 0 where
+  becomes : A → Change A
+  ends : Change A
+
+-- x is one of the elements of a list
+pub data Mem {A : Type 0} : A → List A → Type 0 where
+  here : {x : A} {xs : List A} → Mem x (x ∷ xs)
+  there : {x y : A} {xs : List A} → Mem x xs → Mem x (y ∷ xs)
+
 module _ {A : Type 0} where
   -- a, if the test holds
   abbrev pub when : Bool → A → Option A
@@ -57,6 +67,12 @@ module _ {A : Type 0} where
   abbrev pub given : {B : Type 0} → (A → Option B) → Option A → Option B
   given f (some a) = f a
   given f none = none
+
+  -- what lasts, by the latest change: nothing before the first, nor after an end
+  abbrev pub lasting : Option (Change A) → Option A
+  lasting none = none
+  lasting (some ends) = none
+  lasting (some (becomes a)) = some a
 
   -- some element passes
   unfoldable pub anyOf : (A → Bool) → List A → Bool

@@ -10,7 +10,7 @@ use Rattle.rules.specs.declared.Case.the-variants.{Clear}
 use Rattle.rules.specs.History.{History, isKind, when, anyOf, those, firsts, latestOf, greatestOf}
 use Rattle.rules.specs.Cases.{fault, faultIf, orCase, caseOf}
 
--- a RangeIdsLeased: "A node, B index, C run, D first, E last"
+-- "11 RangeIdsLeased: A node, B index, C run, D first, E last"
 pub record Grant : Type 0 where
   pub node : ℕ
   pub index : ℕ

@@ -1,5 +1,6 @@
 -- Document 01's rules as definitions: each check over the history of the records taken, and what is reported of it.
 pub mod History
+pub mod Views
 pub mod Cases
 pub mod Descriptors
 pub mod IdsUnique

@@ -1,14 +1,16 @@
 -- `MetaNeverGoesBack`: the names that meta gives to keys, and the meta check.
+use mathlib.Core.Path.{_≡_}
 use mathlib.Core.Bool.{Bool, true, false, cond, not, _&&_, _||_}
 use mathlib.Core.List.{List, [], _∷_}
 use mathlib.Core.Option.{Option, none, some}
 use Prim.Native.Nat.{ℕ}
 use lib.ListN.{length}
 use lib.Dec.{eqb, ltb, leb}
-use Rattle.record.specs.Keys.{Key, keyLtb, keyEqb, listEqb, inside}
+use Rattle.record.specs.Keys.{Key, keyLtb, keyEqb, listEqb, inside, Lt, Le}
 use Rattle.record.specs.Records.{Span, TraceRecord}
 use Rattle.rules.specs.declared.Case.{Case}
 use Rattle.rules.specs.declared.Case.the-variants.{Clear}
+use Rattle.rules.specs.Views.{metaBy}
 use Rattle.rules.specs.History.{History, isKind, when, told, greatestOf}
 use Rattle.rules.specs.Cases.{fault, isFault, faultIf, orCase, caseOf}
 use Rattle.rules.specs.Descriptors.{Held, Entry, spanOf, firstAtGeneration}
@@ -19,8 +21,8 @@ differsFrom x v =
     not (keyEqb (v .start) (spanOf 0 x .start)) || not (keyEqb (v .end) (spanOf 0 x .end)) || not (listEqb (v .voters) (x .voters))
 
 abbrev pub namedFault : TraceRecord → Option Entry → Case
-namedFault x none = fault 1 (x .a ∷ x .d ∷ x .b ∷ [])
-namedFault x (some v) = faultIf (differsFrom x (v .held)) (fault 2 (x .a ∷ x .d ∷ x .b ∷ []))
+namedFault x none = fault 1 (metaBy x .range ∷ metaBy x .generation ∷ metaBy x .index ∷ [])
+namedFault x (some v) = faultIf (differsFrom x (v .held)) (fault 2 (metaBy x .range ∷ metaBy x .generation ∷ metaBy x .index ∷ []))
 
 -- the name of the keys of a span: the record that won them, its generation and index
 pub record Name : Type 0 where
@@ -34,7 +36,7 @@ abbrev pub isWon : TraceRecord → Bool
 isWon x = isKind 12 x && leb 2 (length (x .spans)) && keyLtb (spanOf 1 x .start) (spanOf 1 x .end)
 
 abbrev pub nameBy : TraceRecord → Name
-nameBy x = record { start = spanOf 1 x .start; end = spanOf 1 x .end; generation = x .d; index = x .b }
+nameBy x = record { start = spanOf 1 x .start; end = spanOf 1 x .end; generation = metaBy x .generation; index = metaBy x .index }
 
 -- the names, newest first
 unfoldable pub names : History → List Name
@@ -51,9 +53,11 @@ standingName ns k = greatestOf (λ n. n .index) (covers k) ns
 -- lower, generation lower: the same, then standing index"
 abbrev pub nameFault : TraceRecord → Name → Case
 nameFault x n =
-    cond (ltb (n .index) (x .b))
-    (faultIf (ltb (x .d) (n .generation)) (fault 3 (x .b ∷ x .a ∷ x .d ∷ n .generation ∷ [])))
-    (faultIf (ltb (n .generation) (x .d)) (fault 4 (x .b ∷ x .a ∷ x .d ∷ n .generation ∷ n .index ∷ [])))
+    cond (ltb (n .index) (metaBy x .index))
+    (faultIf (ltb (metaBy x .generation) (n .generation))
+    (fault 3 (metaBy x .index ∷ metaBy x .range ∷ metaBy x .generation ∷ n .generation ∷ [])))
+    (faultIf (ltb (n .generation) (metaBy x .generation))
+    (fault 4 (metaBy x .index ∷ metaBy x .range ∷ metaBy x .generation ∷ n .generation ∷ n .index ∷ [])))
 
 -- the case of a won key, by its standing name
 unfoldable pub keyFault : TraceRecord → List Name → Key → Case
@@ -73,8 +77,21 @@ unfoldable pub leastKey : (Key → Bool) → List Key → Option Key
 leastKey p [] = none
 leastKey p (k ∷ ks) = cond (p k) (lowerKey k (leastKey p ks)) (leastKey p ks)
 
--- "The walk stops at its first faulty piece, in key order": the fault at the least faulty key of the won span; only its
--- start and the ends of names have to be looked at
+-- "The walk stops at its first faulty piece, in key order": k is the least faulty key from s up to e, of all the keys that
+-- there are, so that the piece that holds it is the first faulty one ..
+pub record FirstFaultyKey (f : Key → Case) (s e k : Key) : Type 0 where
+  pub low : Le s k
+  pub high : Lt k e
+  pub faulty : isFault (f k) ≡ true
+  pub before : (j : Key) → Le s j → Lt j k → isFault (f j) ≡ false
+
+-- .. and c is the case at which the walk stops, that key's; or Clear, where no key is faulty
+pub data FirstFaulty (f : Key → Case) (s e : Key) (c : Case) : Type 0 where
+  at : (k : Key) → FirstFaultyKey f s e k → c ≡ f k → FirstFaulty f s e c
+  clean : ((k : Key) → Le s k → Lt k e → isFault (f k) ≡ false) → c ≡ Clear → FirstFaulty f s e c
+
+-- the case of a won span. Only its start and the ends of names are looked at, and it is the one `FirstFaulty` of the span all
+-- the same: `wonFault-right` in proofs/MetaLeast.antt
 unfoldable pub wonFault : TraceRecord → List Name → Case
 wonFault x ns =
     caseOf (keyFault x ns)
@@ -84,4 +101,4 @@ wonFault x ns =
 unfoldable pub metaAt : TraceRecord → History → Case
 metaAt x h =
     faultIf (isKind 12 x)
-    (orCase (namedFault x (firstAtGeneration (x .a) (x .d) h)) (faultIf (isWon x) (wonFault x (names h))))
+    (orCase (namedFault x (firstAtGeneration (metaBy x .range) (metaBy x .generation) h)) (faultIf (isWon x) (wonFault x (names h))))

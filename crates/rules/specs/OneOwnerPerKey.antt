@@ -12,7 +12,8 @@ use Rattle.record.specs.Numbers.{bigEndian}
 use Rattle.record.specs.Records.{Span, TraceRecord}
 use Rattle.rules.specs.declared.Case.{Case}
 use Rattle.rules.specs.declared.Case.the-variants.{Clear}
-use Rattle.rules.specs.History.{History, isKind, isBy, when, isSome, holds, given, anyOf, told, latest, lowestOf}
+use Rattle.rules.specs.Views.{rangeOf, createdBy}
+use Rattle.rules.specs.History.{History, isKind, isBy, when, Change, becomes, ends, lasting, isSome, holds, anyOf, told, latest, lowestOf}
 use Rattle.rules.specs.Cases.{fault, faultIf, caseOf, firstCase}
 use Rattle.rules.specs.Descriptors.{spanOf}
 
@@ -27,25 +28,26 @@ isHolding x = isKind 1 x || isKind 2 x
 
 -- "removal, crash or RaftRefused end it"
 abbrev pub isEnding : ℕ → TraceRecord → Bool
-isEnding range x = (isKind 9 x && eqb (x .a) range) || isKind 6 x || isKind 10 x
+isEnding range x = (isKind 9 x && eqb (rangeOf x) range) || isKind 6 x || isKind 10 x
 
--- what a record tells of a node's hold on a range: a span, or that there is none any more
-abbrev pub tellsHold : ℕ → ℕ → TraceRecord → History → Option (Option Span)
+-- what a record tells of a node's hold on a range: the span over which it holds it from now on, or the end
+abbrev pub tellsHold : ℕ → ℕ → TraceRecord → History → Option (Change Span)
 tellsHold node range x h =
     cond (isBy node x)
-    (cond (isHolding x && eqb (x .a) range) (some (some (spanOf 0 x))) (when (isEnding range x) none))
+    (cond (isHolding x && eqb (rangeOf x) range) (some (becomes (spanOf 0 x))) (when (isEnding range x) ends))
     none
 
 -- the span over which a node holds a range, "the latest replacing"
-unfoldable pub heldSpan : ℕ → ℕ → History → Option Span
-heldSpan node range h = given (λ s. s) (latest (tellsHold node range) h)
+unfoldable pub holdOf : ℕ → ℕ → History → Option Span
+holdOf node range h = lasting (latest (tellsHold node range) h)
 
-abbrev pub isHeld : ℕ → ℕ → History → Bool
-isHeld node range h = isSome (heldSpan node range h)
+-- the node holds the range
+abbrev pub hasHold : ℕ → ℕ → History → Bool
+hasHold node range h = isSome (holdOf node range h)
 
 -- the ranges that a node was ever made to hold
 unfoldable pub rangesOf : ℕ → History → List ℕ
-rangesOf node h = told (λ x _. when (isBy node x && isHolding x) (x .a)) h
+rangesOf node h = told (λ x _. when (isBy node x && isHolding x) (rangeOf x)) h
 
 -- "from < end and start < to": the span t meets s
 abbrev pub meets : Span → Span → Bool
@@ -53,13 +55,13 @@ meets s t = keyLtb (t .start) (s .end) && keyLtb (s .start) (t .end)
 
 -- the lowest range that passes and that the node holds over a span that meets s
 unfoldable pub lowestMeeting : (ℕ → Bool) → Span → ℕ → History → Option ℕ
-lowestMeeting p s node h = lowestOf (λ r. r) (λ r. p r && holds (meets s) (heldSpan node r h)) (rangesOf node h)
+lowestMeeting p s node h = lowestOf (λ r. r) (λ r. p r && holds (meets s) (holdOf node r h)) (rangesOf node h)
 
 -- overlap: "a node holds two ranges with from < end and start < to: node, range, lowest other"
 unfoldable pub overlapAt : TraceRecord → History → Case
 overlapAt x h =
     byMarked (λ n. faultIf (isHolding x)
-    (caseOf (λ o. fault 1 (n ∷ x .a ∷ o ∷ [])) (lowestMeeting (λ r. not (eqb r (x .a))) (spanOf 0 x) n h)))
+    (caseOf (λ o. fault 1 (n ∷ rangeOf x ∷ o ∷ [])) (lowestMeeting (λ r. not (eqb r (rangeOf x))) (spanOf 0 x) n h)))
     (x .node)
 
 -- "A start names a group if it has 16 bytes or more and its first 8, big-endian, are the tenant; the next 8 are the group"
@@ -83,4 +85,6 @@ installAt tenant x h = byMarked (λ n. faultIf (isKind 8 x) (firstCase (installF
 
 -- twice: "a RangeCreated of a range already held: node, range, floor"
 unfoldable pub twiceAt : TraceRecord → History → Case
-twiceAt x h = byMarked (λ n. faultIf (isKind 1 x && isHeld n (x .a) h) (fault 1 (n ∷ x .a ∷ x .b ∷ []))) (x .node)
+twiceAt x h =
+    byMarked (λ n. faultIf (isKind 1 x && hasHold n (createdBy x .range) h) (fault 1 (n ∷ createdBy x .range ∷ createdBy x .floor ∷ [])))
+    (x .node)

@@ -63,9 +63,8 @@ faulted n kind e = record { verdict = Faulted kind; at = n; evidence = e }
 
 -- a report that is right for a history, each way
 pub record Right (has : History → Type 0) (caseAt : History → Case) (h : History) (r : Report) : Type 0 where
-  pub fault-only : (n kind : ℕ) (e : Evidence) → r ≡ faulted n kind e
-      → (m : ℕ) × (n ≡ position (first m h)) × FirstFault has caseAt h m (Fault kind e)
-  pub fault-if : (n kind : ℕ) (e : Evidence) → FirstFault has caseAt h n (Fault kind e) → r ≡ faulted (position (first n h)) kind e
+  pub fault-only : (n kind : ℕ) (e : Evidence) → r ≡ faulted n kind e → FirstFault has caseAt h n (Fault kind e)
+  pub fault-if : (n kind : ℕ) (e : Evidence) → FirstFault has caseAt h n (Fault kind e) → r ≡ faulted n kind e
   pub pass-only : r ≡ passed → (n : ℕ) → n ≤ length h → has (first n h) → ⊥
   pub pass-if : ((n : ℕ) → n ≤ length h → has (first n h) → ⊥) → r ≡ passed
 

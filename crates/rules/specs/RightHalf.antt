@@ -12,14 +12,15 @@ use Rattle.record.specs.declared.named.ApplyEffect.the-variants.{Took}
 use Rattle.record.specs.Named.{causeOf, causeNumber}
 use Rattle.record.specs.Records.{TraceRecord}
 use Rattle.rules.specs.declared.Case.{Case}
-use Rattle.rules.specs.History.{History, isKind, isBy, when, orElse, isSome, holds, given, anyOf, told, latest, firsts, latestOf, greatestOf, lowestOf}
+use Rattle.rules.specs.Views.{rangeOf, createdBy, descriptorBy, applyBy, recoveredBy}
+use Rattle.rules.specs.History.{History, Change, becomes, ends, lasting, isKind, isBy, when, orElse, isSome, holds, given, anyOf, told, latest, firsts, greatestOf, lowestOf}
 use Rattle.rules.specs.Cases.{fault, faultIf, orCase, caseOf}
 use Rattle.rules.specs.GenerationsRise.{hasEffect}
-use Rattle.rules.specs.OneOwnerPerKey.{byMarked, isHeld}
+use Rattle.rules.specs.OneOwnerPerKey.{byMarked, hasHold}
 
 -- "A node's number becomes a server's only through its latest RaftRecovered, else unchanged"
 abbrev pub tellsServer : ℕ → TraceRecord → History → Option ServerId
-tellsServer node x h = when (isBy node x && isKind 4 x) (record { 0 = x .c })
+tellsServer node x h = when (isBy node x && isKind 4 x) (record { 0 = recoveredBy x .server })
 
 abbrev pub serverOr : ℕ → Option ServerId → ServerId
 serverOr node none = record { 0 = node }
@@ -35,7 +36,7 @@ tellsRestated node x h = when (isBy node x && (isKind 5 x || isKind 6 x)) (isKin
 unfoldable pub isRestated : ℕ → History → Bool
 isRestated node h = holds (λ b. b) (latest (tellsRestated node) h)
 
--- a RangeSplit: "A range, B index, C right"
+-- "7 RangeSplit: A range, B index, C right"
 pub record Pending : Type 0 where
   pub parent : ℕ
   pub index : ℕ
@@ -46,7 +47,7 @@ pendingBy x = record { parent = x .a; index = x .b; right = x .c }
 
 -- "by kind 2 at the range and index of the node's pending (latest) RangeSplit, which it uses up"
 abbrev pub usesUp : TraceRecord → Pending → Bool
-usesUp x p = isKind 2 x && eqb (x .a) (p .parent) && eqb (x .b) (p .index)
+usesUp x p = isKind 2 x && eqb (descriptorBy x .range) (p .parent) && eqb (descriptorBy x .index) (p .index)
 
 -- a node's own record: a RangeSplit is the new pending one; a refusal, a crash or its use ends the old one
 abbrev pub pendingNext : TraceRecord → Option Pending → Option Pending
@@ -67,7 +68,7 @@ pub record Registered : Type 0 where
 abbrev pub createdSplit : TraceRecord → Option Registered
 createdSplit x =
     when (isKind 1 x && eqb (causeNumber (causeOf (x .code))) (causeNumber Split) && eqb (x .flag) 1)
-    (record { parent = x .c; index = x .b; right = x .a; voters = x .voters })
+    (record { parent = createdBy x .parent; index = createdBy x .floor; right = createdBy x .range; voters = x .voters })
 
 -- "or by kind 2 at the range and index of the node's pending RangeSplit"
 abbrev pub pendingSplit : TraceRecord → Option Pending → Option Registered
@@ -102,26 +103,28 @@ unfoldable pub registers : TraceRecord → History → Option Registered
 registers x h = given (unlessKnown h) (tellsSplit x h)
 
 -- "While not restated, kind 2 also records that applied index for the range"; "RaftRefused drops .. the recorded indexes"
-abbrev pub tellsRecorded : ℕ → ℕ → TraceRecord → History → Option (Option ℕ)
+abbrev pub tellsRecorded : ℕ → ℕ → TraceRecord → History → Option (Change ℕ)
 tellsRecorded node range x h =
     cond (isBy node x)
-    (cond (isKind 2 x && eqb (x .a) range && not (isRestated node h)) (some (some (x .c))) (when (isKind 10 x) none))
+    (cond (isKind 2 x && eqb (descriptorBy x .range) range && not (isRestated node h)) (some (becomes (descriptorBy x .applied)))
+    (when (isKind 10 x) ends))
     none
 
 unfoldable pub recorded : ℕ → ℕ → History → Option ℕ
-recorded node range h = given (λ i. i) (latest (tellsRecorded node range) h)
+recorded node range h = lasting (latest (tellsRecorded node range) h)
 
 -- a node's "recorded index of the parent reaches it"
 abbrev pub reaches : ℕ → Registered → History → Bool
 reaches node s h = holds (λ i. leb (s .index) i) (recorded node (s .parent) h)
 
--- "A node applies it at RangeSplit; at Took, if registered; while not restated, at kind 2, every registered index up to applied"
-abbrev pub appliesItself : ℕ → ℕ → ℕ → TraceRecord → History → Bool
-appliesItself node parent index x h =
-    isBy node x && eqb (x .a) parent
-    && ((isKind 7 x && eqb (x .b) index)
-    || (hasEffect Took x && eqb (x .b) index && isRegistered parent index h)
-    || (isKind 2 x && not (isRestated node h) && leb index (x .c) && isRegistered parent index (x ∷ h)))
+-- "A node applies it at RangeSplit; at Took, if registered; while not restated, at kind 2, every registered index up to applied":
+-- within kind 2 "a pending split registers" first, so what x registers counts there
+abbrev pub applies : ℕ → ℕ → ℕ → TraceRecord → History → Bool
+applies node parent index x h =
+    isBy node x && eqb (rangeOf x) parent
+    && ((isKind 7 x && eqb (pendingBy x .index) index)
+    || (hasEffect Took x && eqb (applyBy x .index) index && isRegistered parent index h)
+    || (isKind 2 x && not (isRestated node h) && leb index (descriptorBy x .applied) && isRegistered parent index (x ∷ h)))
 
 -- "Registering applies it for nodes whose recorded index of the parent reaches it"
 abbrev pub appliedByRegistering : ℕ → ℕ → ℕ → TraceRecord → History → Bool
@@ -130,7 +133,7 @@ appliedByRegistering node parent index x h = holds (λ s. isSplit parent index s
 -- "RaftRefused drops debts, applied splits, .."
 abbrev pub tellsApplies : ℕ → ℕ → ℕ → TraceRecord → History → Option Bool
 tellsApplies node parent index x h =
-    cond (appliesItself node parent index x h || appliedByRegistering node parent index x h) (some true)
+    cond (applies node parent index x h || appliedByRegistering node parent index x h) (some true)
     (when (isBy node x && isKind 10 x) false)
 
 -- a node has applied a split
@@ -141,15 +144,11 @@ hasApplied node parent index h = holds (λ b. b) (latest (tellsApplies node pare
 abbrev pub isVoter : ℕ → History → Registered → Bool
 isVoter node h s = anyOf (λ v. eqb v (serverOf node h .0)) (s .voters)
 
--- the split by which a node owes a right range
-abbrev pub ownDebt : ℕ → ℕ → TraceRecord → History → Option Registered
+-- "When a node applies a registered split .. and its server at that moment is a voter, it owes the right range": the split by
+-- which it does, at its own record. It applies them "rising", so that the greatest index replaces the others
+unfoldable pub ownDebt : ℕ → ℕ → TraceRecord → History → Option Registered
 ownDebt node right x h =
-    cond (isKind 7 x || hasEffect Took x)
-    (latestOf (λ s. isSplit (x .a) (x .b) s && eqb (s .right) right && isVoter node h s) (registered h))
-    (cond (isKind 2 x && not (isRestated node h))
-    (greatestOf (λ s. s .index) (λ s. eqb (s .parent) (x .a) && leb (s .index) (x .c) && eqb (s .right) right && isVoter node h s)
-    (registered (x ∷ h)))
-    none)
+    greatestOf (λ s. s .index) (λ s. applies node (s .parent) (s .index) x h && eqb (s .right) right && isVoter node h s) (registered (x ∷ h))
 
 -- "or one it has applied registers": also where registering applies it
 abbrev pub owesByRegistering : ℕ → ℕ → History → Registered → Bool
@@ -161,29 +160,29 @@ registeringDebt node right x h = given (λ s. when (owesByRegistering node right
 
 -- the debt that arises at a record: what the record registers comes first, and the splits that the node then applies replace it
 unfoldable pub debtAt : ℕ → ℕ → TraceRecord → History → Option Registered
-debtAt node right x h = orElse (cond (isBy node x) (ownDebt node right x h) none) (registeringDebt node right x h)
+debtAt node right x h = orElse (ownDebt node right x h) (registeringDebt node right x h)
 
--- "RangeRemoved cancels; RaftRefused drops debts"
+-- "RangeRemoved cancels; RaftRefused drops debts"; else a record tells of a right range the debt that arises
 abbrev pub cancels : ℕ → ℕ → TraceRecord → Bool
-cancels node right x = isBy node x && ((isKind 9 x && eqb (x .a) right) || isKind 10 x)
+cancels node right x = isBy node x && ((isKind 9 x && eqb (rangeOf x) right) || isKind 10 x)
 
-abbrev pub tellsDebt : ℕ → ℕ → TraceRecord → History → Option (Option Registered)
-tellsDebt node right x h = cond (cancels node right x) (some none) (given (λ s. some (some s)) (debtAt node right x h))
+abbrev pub tellsDebt : ℕ → ℕ → TraceRecord → History → Option (Change Registered)
+tellsDebt node right x h = cond (cancels node right x) (some ends) (given (λ s. some (becomes s)) (debtAt node right x h))
 
--- what a node owes: "it owes the right range, the latest debt replacing"
+-- what a node owes, and by which split: "it owes the right range, the latest debt replacing"
 unfoldable pub owes : ℕ → ℕ → History → Option Registered
-owes node right h = given (λ d. d) (latest (tellsDebt node right) h)
+owes node right h = lasting (latest (tellsDebt node right) h)
 
 -- "what was held at the latest RangesRestated", which RaftRefused drops: "after a drop it lacks all"
 abbrev pub tellsRestatedWith : ℕ → ℕ → TraceRecord → History → Option Bool
-tellsRestatedWith node range x h = when (isBy node x && (isKind 5 x || isKind 10 x)) (isKind 5 x && isHeld node range h)
+tellsRestatedWith node range x h = when (isBy node x && (isKind 5 x || isKind 10 x)) (isKind 5 x && hasHold node range h)
 
 unfoldable pub restatedWith : ℕ → ℕ → History → Bool
 restatedWith node range h = holds (λ b. b) (latest (tellsRestatedWith node range) h)
 
 -- "an owed range isn't held (the lowest such, with its debt's parent and index)": node, parent, index, right
 abbrev pub isMissing : ℕ → History → ℕ → Bool
-isMissing node h right = isSome (owes node right h) && not (isHeld node right h)
+isMissing node h right = isSome (owes node right h) && not (hasHold node right h)
 
 unfoldable pub missingFault : ℕ → ℕ → History → Case
 missingFault kind node h =
@@ -211,6 +210,6 @@ registeringFault x h s =
 -- half: "kind 1 at an apply, 2 at a restatement or a registering"
 unfoldable pub halfAt : TraceRecord → History → Case
 halfAt x h =
-    byMarked (λ n. orCase (faultIf (hasEffect Took x && isRegistered (x .a) (x .b) h) (missingFault 1 n (x ∷ h)))
+    byMarked (λ n. orCase (faultIf (hasEffect Took x && isRegistered (applyBy x .range) (applyBy x .index) h) (missingFault 1 n (x ∷ h)))
     (orCase (faultIf (isKind 5 x) (missingFault 2 n (x ∷ h))) (caseOf (registeringFault x h) (registers x h))))
     (x .node)

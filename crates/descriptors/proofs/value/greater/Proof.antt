@@ -3,7 +3,8 @@ use mathlib.Core.Option.{some}
 use native.Mathlib.Omega.{arith}
 use borrow.Author.Needs.{needs}
 use borrow.Author.Tests.{not-true, not-false}
-use Rattle.history.proofs.Queries.{greaterOf, greater-none}
+use Rattle.history.specs.Weighing.{greaterOf}
+use Rattle.history.proofs.Queries.{greater-none}
 use Rattle.descriptors.proofs.Walks.{weigh-first, greater-takes, greater-keeps}
 use Rattle.descriptors.proofs.value.greater.Statement.{statement}
 use Rattle.descriptors.proofs.value.greater.Tie as tie

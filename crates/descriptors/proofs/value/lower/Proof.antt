@@ -3,7 +3,8 @@ use mathlib.Core.Option.{some}
 use native.Mathlib.Omega.{arith}
 use borrow.Author.Needs.{needs}
 use borrow.Author.Tests.{not-true, not-false}
-use Rattle.history.proofs.Queries.{lowerOf, lower-none}
+use Rattle.history.specs.Weighing.{lowerOf}
+use Rattle.history.proofs.Queries.{lower-none}
 use Rattle.descriptors.proofs.Walks.{weigh-first, lower-takes, lower-keeps}
 use Rattle.descriptors.proofs.value.lower.Statement.{statement}
 use Rattle.descriptors.proofs.value.lower.Tie as tie

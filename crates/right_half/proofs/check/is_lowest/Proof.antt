@@ -6,7 +6,7 @@ use borrow.Author.Tests.{not-true, not-false}
 use Rattle.record.specs.declared.named.ServerId.{ServerId}
 use Rattle.record.specs.Records.{decode}
 use Rattle.rules.specs.History.{anyOf, holds}
-use Rattle.rules.specs.OneOwnerPerKey.{isHeld}
+use Rattle.rules.specs.OneOwnerPerKey.{hasHold}
 use Rattle.rules.specs.RightHalf.{serverOf}
 use Rattle.history.specs.Logs.{hist}
 use Rattle.right_half.specs.Walk.{foundIn}
@@ -22,7 +22,7 @@ is-above-requires c κs = search needs
 returns : tie.Need-returns
 returns c =
     let a = c .before .before .before .before .before .args in
-    λ ix. lowest-above (anyOf (λ v. eqb v (serverOf (a .node .0) (hist (a .log .now) (a .count)) .0)) (decode (a .found .now) .voters)) (not (isHeld (a .node .0) (a .right) (hist (a .log .now) (a .count)))) (sym (c .before .is-above .ensures) ∙ c .if1 .taken)
+    λ ix. lowest-above (anyOf (λ v. eqb v (serverOf (a .node .0) (hist (a .log .now) (a .count)) .0)) (decode (a .found .now) .voters)) (not (hasHold (a .node .0) (a .right) (hist (a .log .now) (a .count)))) (sym (c .before .is-above .ensures) ∙ c .if1 .taken)
 
 server-of-requires : tie.Need-server-of-requires
 server-of-requires c κs = search needs
@@ -33,7 +33,7 @@ is-voter-requires c κs = search needs
 returns-2 : tie.Need-returns-2
 returns-2 c =
     let a = c .before .before .before .before .before .before .before .before .args in
-    λ ix. lowest-unowed (not (isHeld (a .node .0) (a .right) (hist (a .log .now) (a .count)))) (holds (λ b. ltb b (a .right)) (foundIn (a .lowest)))
+    λ ix. lowest-unowed (not (hasHold (a .node .0) (a .right) (hist (a .log .now) (a .count)))) (holds (λ b. ltb b (a .right)) (foundIn (a .lowest)))
     (sym (c .before .is-voter .ensures ∙ ap (λ (s : ServerId). anyOf (λ v. eqb v (s .0)) (decode (a .found .now) .voters)) (c .before .before .server-of .ensures ix)) ∙ not-true _ (c .if2 .taken))
 
 held-by-requires : tie.Need-held-by-requires
