@@ -10,7 +10,7 @@ use Rattle.record.specs.Form.{refusalOf}
 use Rattle.record.specs.Records.{decode}
 use Rattle.rules.specs.History.{History}
 use Rattle.judge.specs.declared.trace.Traced.{Traced}
-use Rattle.judge.specs.States.{State, orFull, suits, pushRefusal, takes}
+use Rattle.judge.specs.States.{State, refusalNumber, orFull, suits, pushRefusal, takes}
 use Rattle.judge.specs.Openings.{Fits}
 use Rattle.judge.specs.Words.{Indexed}
 use Rattle.judge.specs.Runs.{After, stateOf}
@@ -145,7 +145,7 @@ feeds-came {s} {t} {trace} {n} {f} {at} h a e (taken {u = u} l q p w) =
 -- the records of pieces are as many
 records-count : (ps : List (List ℕ)) (h : History) → length (recordsIn ps h) ≡ length ps + length h
 unfolding recordsIn
-records-count [] h = refl
+records-count [] h = omega arith
 records-count (p ∷ ps) h = let e = records-count ps (decode p ∷ h) in omega arith
 
 -- A WHOLE TRACE: where the opening is not refused, reports, look-ups, refusal and record number are those of the trace's bytes
@@ -156,11 +156,12 @@ whole-trace tenant c log work trace r log′ work′ f p =
     let w = feeds-came [] (fresh-after tenant c log work f) refl (p .opened c f) in
     let n = length (soundIn c 0 (pieces trace)) in
     let k = records-count (soundIn c 0 (pieces trace)) [] in
-    let z : length (soundIn c 0 (pieces trace)) + 0 ≡ n = omega arith in
+    let z : n + 0 ≡ n = omega arith in
+    let y : 0 + n ≡ n = omega arith in
     record {
       count = w .after .count ∙ k ∙ z;
       refusal = w .refusal;
-      at = w .place ∙ ap (λ (g : ℕ). cond (eqb g 0) n (n + 1)) (w .refusal);
+      at = w .place ∙ ap (λ (k : ℕ). cond (eqb (refusalNumber (r .refusal)) 0) k (k + 1)) y ∙ ap (λ (g : ℕ). cond (eqb g 0) n (n + 1)) (w .refusal);
       demand2 = demand2-of _ _ (w .after) tenant (w .tenant-is);
       demand3 = demand3-of Indexed tenant _ _ (w .after) (w .tenant-is);
     }
