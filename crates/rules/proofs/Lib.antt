@@ -13,6 +13,10 @@ pub mod CaseLists
 -- reports
 pub mod Beginnings
 pub mod Reports
+-- the table of checks
+pub mod Checks
+pub mod CaseKinds
+pub mod Concerns
 -- descriptors
 pub mod Standing
 pub mod LookUps

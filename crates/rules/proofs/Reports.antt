@@ -185,7 +185,7 @@ module _ (has : History → Type 0) (caseAt : History → Case) where
 pub whole-right : (f : History → Case) → f [] ≡ Clear → (h : History) → Right (HasWhole f) f h (reportOf f h)
 whole-right f e = right (HasWhole f) f (λ y. never y (ap isFault e)) (λ h y. y) (λ x h y. inl y)
 
-agreement-none : agreement [] ≡ Clear
+pub agreement-none : agreement [] ≡ Clear
 unfolding agreement putsDiffer stated told earliestCase
 agreement-none = refl
 

@@ -1,8 +1,9 @@
 -- What a check says of a record: nothing, or a fault with its kind and evidence.
+use mathlib.Core.Path.{_≡_}
 use mathlib.Core.Bool.{Bool, true, false}
 use mathlib.Core.List.{List, [], _∷_}
 use mathlib.Core.Option.{Option, none, some}
-use Prim.Native.Nat.{ℕ}
+use Prim.Native.Nat.{ℕ, _≤_}
 use lib.ListN.{getD}
 use Rattle.rules.specs.declared.Case.{Case}
 use Rattle.rules.specs.declared.Case.the-variants.{Clear, Fault}
@@ -18,6 +19,10 @@ fault kind ns = Fault kind (evidence ns)
 abbrev pub isFault : Case → Bool
 isFault Clear = false
 isFault (Fault kind e) = true
+
+-- a case that is clear, or whose kind is from 1 to a number
+pub record KindWithin (most : ℕ) (c : Case) : Type 0 where
+  pub kind : (k : ℕ) (e : Evidence) → c ≡ Fault k e → (1 ≤ k) × (k ≤ most)
 
 -- the case, if the test holds
 abbrev pub faultIf : Bool → Case → Case

@@ -12,7 +12,8 @@ use Rattle.rules.specs.declared.Case.the-variants.{Clear}
 use Rattle.rules.specs.declared.Report.{Report}
 use Rattle.rules.specs.History.{History}
 use Rattle.rules.specs.Cases.{evidence}
-use Rattle.rules.specs.Reports.{passed, faulted, reportOf, checks}
+use Rattle.rules.specs.Reports.{passed, faulted, reportOf}
+use Rattle.rules.specs.Checks.{checkAt, caseAt}
 
 -- ---- records of each kind
 
@@ -322,4 +323,4 @@ table =
 
 -- what the rules say of a row's trace, under tenant 0
 abbrev pub answer : Row → Report
-answer r = reportOf (getD (checks 0) (place (r .check)) (λ h. Clear)) (reverse (r .trace))
+answer r = reportOf (caseAt (record { tenant = 0 }) (checkAt (place (r .check)))) (reverse (r .trace))

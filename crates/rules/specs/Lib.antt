@@ -9,4 +9,5 @@ pub mod GenerationsRise
 pub mod RightHalf
 pub mod MetaNeverGoesBack
 pub mod Reports
+pub mod Checks
 pub mod Examples

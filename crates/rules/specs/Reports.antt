@@ -14,12 +14,6 @@ use Rattle.rules.specs.declared.Verdict.{Verdict}
 use Rattle.rules.specs.declared.Verdict.the-variants.{Pass, Faulted}
 use Rattle.rules.specs.History.{History}
 use Rattle.rules.specs.Cases.{evidence, isFault}
-use Rattle.rules.specs.Descriptors.{agreement}
-use Rattle.rules.specs.OneOwnerPerKey.{overlapAt, installAt, twiceAt}
-use Rattle.rules.specs.RightHalf.{halfAt}
-use Rattle.rules.specs.GenerationsRise.{generationsAt}
-use Rattle.rules.specs.IdsUnique.{idsAt}
-use Rattle.rules.specs.MetaNeverGoesBack.{metaAt}
 
 -- "A beginning is the first records taken, from none to all": the first n
 abbrev pub first : ℕ → History → History
@@ -78,16 +72,3 @@ atFirst Pass r (Fault kind e) n = faulted n kind e
 unfoldable pub reportOf : (History → Case) → History → Report
 reportOf f [] = passed
 reportOf f (x ∷ h) = atFirst (reportOf f h .verdict) (reportOf f h) (f (x ∷ h)) (position (x ∷ h))
-
--- the eight checks in printing order: agreement, overlap, install, twice, half, generations, ids, meta
-abbrev pub checks : ℕ → List (History → Case)
-checks tenant =
-    agreement
-    ∷ atLast overlapAt
-    ∷ atLast (installAt tenant)
-    ∷ atLast twiceAt
-    ∷ atLast halfAt
-    ∷ atLast generationsAt
-    ∷ atLast idsAt
-    ∷ atLast metaAt
-    ∷ []

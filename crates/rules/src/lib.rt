@@ -1,5 +1,13 @@
 // The types that the rules and the crates above share: what a check says of a record, and what it reports of a trace.
 
+// How many checks there are: as many as the table of checks has (specs/Checks.antt).
+pub const CHECKS: usize = 8;
+
+// The numbers that an opening fixes: the tenant that stands for `RAFT_TENANT`.
+pub struct Opening {
+    pub tenant: u64,
+}
+
 // The five numbers of a fault, missing ones 0.
 pub struct Evidence {
     pub e0: u64,

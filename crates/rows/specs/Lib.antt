@@ -1,0 +1,2 @@
+-- Reports as words.
+pub mod Rows

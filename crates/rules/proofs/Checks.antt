@@ -1,0 +1,59 @@
+-- The laws of the table of checks: how many there are, what holds of each, and that each check's report is right.
+use mathlib.Core.Path.{_≡_, refl, ap, _∙_}
+use mathlib.Core.Bool.{true}
+use mathlib.Core.List.{List, [], _∷_, map}
+use Prim.Native.Nat.{ℕ, zero, suc, _<_}
+use native.Mathlib.Omega.{arith}
+use lib.ListN.{length, getD}
+use Rattle.rules.specs.declared.Case.{Case}
+use Rattle.rules.specs.declared.Case.the-variants.{Clear}
+use Rattle.rules.specs.declared.Opening.{Opening}
+use Rattle.rules.specs.declared.Report.{Report}
+use Rattle.rules.specs.History.{History}
+use Rattle.rules.specs.Reports.{passed, Right, reportOf}
+use Rattle.rules.specs.Checks.{Rule, atRecord, whole, Check, checks, checkCount, checkAt, caseBy, HasBy, caseAt, reportBy, reportsOf, Every}
+use Rattle.rules.proofs.Reports.{whole-right, arises-right, agreement-none}
+
+-- the number of checks is the table's
+pub checks-count : length checks ≡ checkCount
+checks-count = refl
+
+-- what holds of every check of a list holds of the one at a place
+pub every-at : (P : Check → Type 0) (cs : List Check) (d : Check) → Every P cs → (k : ℕ) → k < length cs → P (getD cs k d)
+every-at P [] d p k l = absurd (omega arith)
+every-at P (c ∷ cs) d p zero l = p .0
+every-at P (c ∷ cs) d p (suc k) l = every-at P cs d (p .1) k (omega arith)
+
+pub check-at : (P : Check → Type 0) → Every P checks → (k : ℕ) → k < checkCount → P (checkAt k)
+check-at P p k l = every-at P checks (checkAt 8) p k l
+
+-- the report at a place is that of the check at that place
+map-at : (o : Opening) (h : History) (cs : List Check) (d : Check) (k : ℕ) → k < length cs → getD (map (reportBy o h) cs) k passed ≡ reportBy o h (getD cs k d)
+map-at o h [] d k l = absurd (omega arith)
+map-at o h (c ∷ cs) d zero l = refl
+map-at o h (c ∷ cs) d (suc k) l = map-at o h cs d k (omega arith)
+
+pub report-at : (o : Opening) (h : History) (k : ℕ) → k < checkCount → getD (reportsOf o h) k passed ≡ reportBy o h (checkAt k)
+unfolding reportsOf
+report-at o h k l = map-at o h checks (checkAt 8) k l
+
+-- ---- reports are right
+
+-- a rule that is judged as a whole has no fault of no records
+abbrev pub Grounded : Check → Type 0
+Grounded c = (o : Opening) → caseAt o c [] ≡ Clear
+
+pub grounded : Every Grounded checks
+grounded = (
+  λ o. agreement-none,
+  (λ o. refl, (λ o. refl, (λ o. refl, (λ o. refl, (λ o. refl, (λ o. refl, (λ o. refl, tt))))))),
+)
+
+rule-right : (r : Rule) (o : Opening) → caseBy r o [] ≡ Clear → (h : History) → Right (HasBy r o) (caseBy r o) h (reportOf (caseBy r o) h)
+rule-right (atRecord f) o z h = arises-right (f o) h
+rule-right (whole f) o z h = whole-right (f o) z h
+
+-- of every check of the table
+pub check-right : (o : Opening) (h : History) (k : ℕ) → k < checkCount
+    → Right (HasBy (checkAt k .rule) o) (caseAt o (checkAt k)) h (reportBy o h (checkAt k))
+check-right o h k l = rule-right (checkAt k .rule) o (check-at Grounded grounded k l o) h
