@@ -7,13 +7,15 @@ use lib.ListN.{getD}
 use lib.Dec.{leb}
 use Rattle.rules.specs.declared.Report.{Report}
 use Rattle.rules.specs.Reports.{passed}
+use Rattle.rules.specs.Checks.{checkCount}
 use Rattle.judge.specs.declared.state.Judge.{Judge}
 use Rattle.judge.specs.declared.answer.Reported.{Reported}
-use Rattle.judge.specs.States.{fitsBy, refusalNumber}
+use Rattle.judge.specs.States.{refusalNumber}
+use Rattle.intake.specs.Refusals.{fitsBy}
 
--- report number 1 to 8 in printing order; any other number has a pass
+-- a report by its number, from 1 on, in printing order; a number that is no check's has a pass
 abbrev pub reportNo : List Report → ℕ → Report
-reportNo rs k = cond (leb 1 k && leb k 8) (getD rs (k - 1) passed) passed
+reportNo rs k = cond (leb 1 k && leb k checkCount) (getD rs (k - 1) passed) passed
 
 -- the refusal, the judge as it was given, and the report: a pass where the call is refused
 pub record ReportedBy (j : Judge) (k : ℕ) (r : Reported) : Type 0 where

@@ -1,11 +1,9 @@
 -- The judge's state and calls as definitions, and the words of the second and third demands.
 pub mod States
 pub mod Openings
-pub mod Words
-pub mod WorkArea
-pub mod Steps
 pub mod Answers
 pub mod Lookups
+pub mod Calls
 pub mod Runs
 pub mod Traces
 pub mod Demand2

@@ -1,7 +1,8 @@
 // The reports, one at a time.
-use crate::report::pass;
 use crate::state::Judge;
 use crate::state::Refusal;
+use rows::pass;
+use rules::CHECKS;
 use rules::Report;
 ghost use mathlib.Core.Path.{_≡_};
 ghost use Rattle.judge.specs.Answers.{reportNo, ReportedBy};
@@ -13,14 +14,14 @@ pub struct Reported {
     pub report: Report,
 }
 
-// The report with a number from 1 to 8; any other number has a pass.
-fn report_no(reports: [Report; 8], k: usize) -> Report
+// The report with a number from 1 on, in printing order; a number that is no check's has a pass.
+fn report_no(reports: [Report; CHECKS], k: usize) -> Report
     ensures { λ r. ⌜ r ≡ reportNo reports k ⌝ }
 {
     if k == 0 {
         return pass();
     }
-    if 8 < k {
+    if CHECKS < k {
         return pass();
     }
     let at = k - 1;
@@ -28,7 +29,7 @@ fn report_no(reports: [Report; 8], k: usize) -> Report
 }
 
 impl Judge {
-    // One of the eight reports, by its number in printing order.
+    // One of the reports, by its number in printing order.
     pub fn report(self, k: usize) -> Reported
         ensures { λ r. ⌜ ReportedBy self k r ⌝ }
     {

@@ -4,7 +4,5 @@ pub mod host;
 pub mod lookup;
 pub mod opening;
 pub mod push;
-mod report;
 pub mod state;
-mod step;
 pub mod trace;

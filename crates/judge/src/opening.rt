@@ -1,8 +1,10 @@
 // Opening a judge over a log and a work area of one capacity.
-use crate::report::pass;
 use crate::state::Judge;
 use crate::state::Refusal;
 use history::chain::clear;
+use rows::pass;
+use rules::CHECKS;
+use rules::Opening;
 ghost use mathlib.Core.Path.{_≡_};
 ghost use lib.ListN.{length};
 ghost use Rattle.judge.specs.Openings.{freshOf, Opens};
@@ -15,48 +17,39 @@ pub struct Opened {
 
 impl Judge {
     // The largest capacity.
-    pub const CAPACITY: usize = 4096;
+    pub const CAPACITY: usize = intake::decide::CAPACITY;
 
     // The bytes of a record.
     pub const RECORD_SIZE: usize = record::limits::RECORD_SIZE;
 
     // The words of the work area for each record.
-    pub const WORDS: usize = 32;
+    pub const WORDS: usize = intake::decide::WORDS;
 
     // The most bytes of a key.
     pub const KEY_LIMIT: u8 = record::limits::KEY_LIMIT;
 
-    // A judge that has taken nothing: eight passes.
-    fn fresh(capacity: usize, tenant: u64) -> Self
-        ensures { λ r. ⌜ r ≡ freshOf capacity tenant ⌝ }
+    // A judge that has taken nothing: every report a pass.
+    fn fresh(capacity: usize, opening: Opening) -> Self
+        ensures { λ r. ⌜ r ≡ freshOf capacity opening ⌝ }
     {
         Self {
             capacity: capacity,
             count: 0,
-            tenant: tenant,
-            reports: [
-                pass(),
-                pass(),
-                pass(),
-                pass(),
-                pass(),
-                pass(),
-                pass(),
-                pass(),
-            ],
+            opening: opening,
+            reports: [pass(); CHECKS],
         }
     }
 
     // Opens a judge. A refused opening leaves the work area as it stood, and gives a judge of capacity 0.
-    pub fn open(tenant: u64, log: &[u8], work: &mut [u64]) -> Opened
-        ensures { λ r. ⌜ Opens tenant (length (now (log .entry))) (now (work .entry)) r (now (work .exit)) ⌝ }
+    pub fn open(opening: Opening, log: &[u8], work: &mut [u64]) -> Opened
+        ensures { λ r. ⌜ Opens opening (length (now (log .entry))) (now (work .entry)) r (now (work .exit)) ⌝ }
     {
         let capacity = log.len() / Judge::RECORD_SIZE;
-        let asked = Judge::fresh(capacity, tenant).suits(log.len(), work.len());
+        let asked = Judge::fresh(capacity, opening).suits(log.len(), work.len());
         if !asked.holds | (capacity == 0) {
             return Opened {
                 refusal: Refusal::Opening,
-                judge: Judge::fresh(0, tenant),
+                judge: Judge::fresh(0, opening),
             };
         }
         let judge = asked.judge;

@@ -1,10 +1,13 @@
-// The judge, and the numbers of its refusals.
-use record::form::Form;
-use record::form::form_of;
+// The judge, its tests, and the numbers of its refusals.
+use intake::decide::CAPACITY;
+use intake::decide::suits;
+use rules::CHECKS;
+use rules::Opening;
 use rules::Report;
 ghost use mathlib.Core.Path.{_≡_};
-ghost use Rattle.record.specs.Form.{formNumber};
-ghost use Rattle.judge.specs.States.{fitsBy, suitsBy, orFullBy, pushRefusalBy, refusalNumber};
+ghost use Prim.Native.Nat.{_≤_};
+ghost use Rattle.intake.specs.Refusals.{fitsBy, suitsBy};
+ghost use Rattle.judge.specs.States.{refusalNumber};
 
 // Why a call was refused, or that it was not.
 pub enum Refusal {
@@ -19,23 +22,17 @@ pub enum Refusal {
     Output,
 }
 
-// A judge: its capacity, how many records it has taken, the tenant, and the eight reports in printing order.
+// A judge: its capacity, how many records it has taken, the opening's numbers, and the reports in printing order.
 pub struct Judge {
     pub capacity: usize,
     pub count: usize,
-    pub tenant: u64,
-    pub reports: [Report; 8],
+    pub opening: Opening,
+    pub reports: [Report; CHECKS],
 }
 
 // What a test of the judge gives: whether it holds, and the judge as it was given.
 pub struct Tested {
     pub holds: bool,
-    pub judge: Judge,
-}
-
-// Why a call is refused, or that it is not, and the judge as it was given.
-pub struct Refused {
-    pub refusal: Refusal,
     pub judge: Judge,
 }
 
@@ -56,31 +53,19 @@ pub fn number_of(refusal: Refusal) -> u64
     }
 }
 
-// The refusal that a form draws.
-fn of_form(form: Form) -> Refusal
-    ensures { λ r. ⌜ refusalNumber r ≡ formNumber form ⌝ }
+// The refusal of a number that a push has.
+pub(crate) fn refusal_of(number: u64) -> Refusal
+    requires { ⌜ number ≤ 6 ⌝ }
+    ensures { λ r. ⌜ refusalNumber r ≡ number ⌝ }
 {
-    match form {
-        Form::Sound => Refusal::Nothing,
-        Form::Length => Refusal::Length,
-        Form::Kind => Refusal::Kind,
-        Form::Value => Refusal::Value,
-        Form::Unused => Refusal::Unused,
-    }
-}
-
-// The form's refusal, and after it 6.
-fn or_full(form: Refusal, full: bool) -> Refusal
-    ensures { λ r. ⌜ refusalNumber r ≡ orFullBy (refusalNumber form) full ⌝ }
-{
-    match form {
-        Refusal::Nothing => {
-            if full {
-                return Refusal::Full;
-            }
-            Refusal::Nothing
-        }
-        _ => form,
+    match number {
+        0 => Refusal::Nothing,
+        1 => Refusal::Length,
+        2 => Refusal::Kind,
+        3 => Refusal::Value,
+        4 => Refusal::Unused,
+        5 => Refusal::Judge,
+        _ => Refusal::Full,
     }
 }
 
@@ -90,43 +75,18 @@ impl Judge {
         ensures { λ r. ⌜ (r .holds ≡ fitsBy (self .capacity) (self .count)) × (r .judge ≡ self) ⌝ }
     {
         Tested {
-            holds: (self.capacity <= Judge::CAPACITY) & (self.count <= self.capacity),
+            holds: (self.capacity <= CAPACITY) & (self.count <= self.capacity),
             judge: self,
         }
     }
 
-    // Whether it fits, and the lengths of a log and a work area are those of its capacity. The capacity's test comes first, so
-    // that the products fit.
+    // Whether it fits, and the lengths of a log and a work area are those of its capacity.
     pub(crate) fn suits(self, logs: usize, words: usize) -> Tested
         ensures { λ r. ⌜ (r .holds ≡ suitsBy (self .capacity) (self .count) logs words) × (r .judge ≡ self) ⌝ }
     {
-        let fit = self.fits();
-        if !fit.holds {
-            return fit;
-        }
-        let capacity = self.capacity;
         Tested {
-            holds: (logs == Judge::RECORD_SIZE * capacity) & (words == Judge::WORDS * capacity),
+            holds: suits(self.capacity, self.count, logs, words),
             judge: self,
-        }
-    }
-
-    // Why a push is refused, in the order 5, 1, 2, 3, 4, 6, or that it is not.
-    pub(crate) fn refuses(self, logs: usize, words: usize, rec: &[u8]) -> Refused
-        ensures { λ r. ⌜ (refusalNumber (r .refusal) ≡ pushRefusalBy (self .capacity) (self .count) logs words (now (rec .entry))) × (r .judge ≡ self) ⌝ }
-    {
-        let suiting = self.suits(logs, words);
-        let judge = suiting.judge;
-        if !suiting.holds {
-            return Refused {
-                refusal: Refusal::Judge,
-                judge: judge,
-            };
-        }
-        let why = or_full(of_form(form_of(rec)), judge.count == judge.capacity);
-        Refused {
-            refusal: why,
-            judge: judge,
         }
     }
 }

@@ -3,15 +3,24 @@ use mathlib.Core.Path.{_≡_, refl, sym, ap, _∙_, subst}
 use mathlib.Core.Bool.{Bool, true, false, _&&_}
 use mathlib.Core.List.{List, [], _∷_, _++_, append-assoc}
 use Prim.Native.Nat.{ℕ, zero, suc, _+_, _*_, _≤_, _<_}
+use native.Mathlib.Decide.{ℕ-discrete}
+use native.Mathlib.Numerals.{add-one}
 use native.Mathlib.Omega.{arith}
-use lib.ListN.{length, getD, drop, set, length-append, drop-of-length-le}
-use lib.Seq.{sets, drop-cons, getD-append-add}
+use borrow.Author.Tests.{leb-true, le-leb}
+use lib.Dec.{leb}
+use lib.ListN.{length, getD, take, drop, set, length-append, length-set, drop-of-length-le}
+use lib.Seq.{sets, drop-cons, take-all, take-suc-set, getD-append-add, getD-set-same, getD-set-other}
+use Rattle.rules.specs.declared.Case.{Case}
+use Rattle.rules.specs.declared.Case.the-variants.{Clear, Fault}
+use Rattle.rules.specs.declared.Evidence.{Evidence}
 use Rattle.rules.specs.declared.Report.{Report}
 use Rattle.rules.specs.declared.Verdict.{Verdict}
 use Rattle.rules.specs.declared.Verdict.the-variants.{Pass, Faulted}
-use Rattle.rules.specs.Reports.{passed}
+use Rattle.rules.specs.Reports.{passed, faulted}
 use Rattle.rules.specs.Checks.{checkCount}
-use Rattle.rows.specs.Rows.{rowsSize, kindWord, reportWords, rowsOf, verdictIn, reportIn, reportsFrom, reportsIn, KindsFit, kindsFitIn, kindsFit}
+use Rattle.rules.proofs.Booleans.{and-left, and-right, both}
+use Rattle.rows.specs.Rows.{rowsSize, kindWord, reportWords, rowsOf, verdictIn, reportIn, reportsFrom, reportsIn}
+use Rattle.rows.specs.Rows.{KindsFit, kindsFitIn, kindsFit, enteredIn, EntersIn}
 use Rattle.rows.proofs.Rows.{length-rows, sets-all}
 
 -- ---- from words to reports and back to the words
@@ -26,9 +35,29 @@ fault-read zero h = absurd (h refl)
 fault-read (suc k) h = refl
 
 pub report-read : (words : List ℕ) (at : ℕ) {v : Verdict} → v ≡ verdictIn (getD words at 0)
-    → _≡_ {A = Report} (record { verdict = v; at = getD words (at + 1) 0; evidence = record { e0 = getD words (at + 2) 0; e1 = getD words (at + 3) 0; e2 = getD words (at + 4) 0; e3 = getD words (at + 5) 0; e4 = getD words (at + 6) 0 } }) (reportIn words at)
+    → _≡_ {A = Report} (record {
+      verdict = v;
+      at = getD words (at + 1) 0;
+      evidence = record {
+        e0 = getD words (at + 2) 0;
+        e1 = getD words (at + 3) 0;
+        e2 = getD words (at + 4) 0;
+        e3 = getD words (at + 5) 0;
+        e4 = getD words (at + 6) 0;
+      };
+    }) (reportIn words at)
 unfolding reportIn
-report-read words at e = λ i. record { verdict = e i; at = getD words (at + 1) 0; evidence = record { e0 = getD words (at + 2) 0; e1 = getD words (at + 3) 0; e2 = getD words (at + 4) 0; e3 = getD words (at + 5) 0; e4 = getD words (at + 6) 0 } }
+report-read words at e = λ i. record {
+      verdict = e i;
+      at = getD words (at + 1) 0;
+      evidence = record {
+        e0 = getD words (at + 2) 0;
+        e1 = getD words (at + 3) 0;
+        e2 = getD words (at + 4) 0;
+        e3 = getD words (at + 5) 0;
+        e4 = getD words (at + 6) 0;
+      };
+    }
 
 step : {A : Type 0} (l : List A) (d : A) (i j : ℕ) → j ≡ i + 1 → i < length l → drop i l ≡ getD l i d ∷ drop j l
 step l d i j e h =
@@ -110,7 +139,8 @@ from-back pre (r ∷ rs) a =
     let f : reportIn (pre ++ (reportWords r ++ rowsOf rs)) (length pre) ≡ r = seam pre (reportWords r ++ rowsOf rs) ∙ first-back r (rowsOf rs) (a .0) in
     let w : pre ++ (reportWords r ++ rowsOf rs) ≡ (pre ++ reportWords r) ++ rowsOf rs = sym (append-assoc pre (reportWords r) (rowsOf rs)) in
     let n : length pre + 7 ≡ length (pre ++ reportWords r) = sym (length-append pre (reportWords r)) in
-    let t : reportsFrom (length rs) (pre ++ (reportWords r ++ rowsOf rs)) (length pre + 7) ≡ rs = (λ i. reportsFrom (length rs) (w i) (n i)) ∙ from-back (pre ++ reportWords r) rs (a .1) in
+    let t : reportsFrom (length rs) (pre ++ (reportWords r ++ rowsOf rs)) (length pre + 7) ≡ rs =
+      (λ i. reportsFrom (length rs) (w i) (n i)) ∙ from-back (pre ++ reportWords r) rs (a .1) in
     λ i. f i ∷ t i
 
 -- the words of reports read back
@@ -154,3 +184,114 @@ row-kind (s ∷ rs) (suc k) l =
     ap (λ (n : ℕ). getD (reportWords s ++ rowsOf rs) n 0) e
     ∙ getD-append-add (reportWords s) (rowsOf rs) (7 * k) 0
     ∙ row-kind rs k (omega arith)
+
+-- ---- reports read one after the other
+
+pub reports-none : (words : List ℕ) (at : ℕ) (rs : List Report) → take 0 rs ≡ reportsFrom 0 words at
+unfolding reportsFrom
+reports-none words at rs = refl
+
+-- the last of them
+reports-snoc : (n : ℕ) (words : List ℕ) (at : ℕ) → reportsFrom (suc n) words at ≡ reportsFrom n words at ++ (reportIn words (at + 7 * n) ∷ [])
+unfolding reportsFrom
+reports-snoc zero words at = ap (λ (i : ℕ). reportIn words i ∷ []) (omega arith)
+reports-snoc (suc n) words at =
+    let e : at + 7 + 7 * n ≡ at + 7 * suc n = omega arith in
+    ap (λ (t : List Report). reportIn words at ∷ t) (reports-snoc n words (at + 7))
+    ∙ ap (λ (i : ℕ). reportIn words at ∷ (reportsFrom n words (at + 7) ++ (reportIn words i ∷ []))) e
+
+-- one report more
+pub reports-more : (words : List ℕ) (at : ℕ) (rs : List Report) (k : ℕ) {r : Report} → k < length rs → take k rs ≡ reportsFrom k words at
+    → r ≡ reportIn words (at + 7 * k) → take (k + 1) (set rs k r) ≡ reportsFrom (k + 1) words at
+reports-more words at rs k {r} l e h =
+    ap (λ (n : ℕ). take n (set rs k r)) (add-one k)
+    ∙ take-suc-set rs k r l
+    ∙ (λ i. e i ++ (h i ∷ []))
+    ∙ sym (reports-snoc k words at)
+    ∙ ap (λ (n : ℕ). reportsFrom n words at) (sym (add-one k))
+
+-- all of them
+pub reports-all : (words : List ℕ) (at : ℕ) (rs : List Report) (k n : ℕ) → length rs ≡ n → k ≡ n → take k rs ≡ reportsFrom k words at
+    → rs ≡ reportsFrom n words at
+reports-all words at rs k n l q e = sym (take-all k rs (omega arith)) ∙ e ∙ ap (λ (m : ℕ). reportsFrom m words at) q
+
+-- ---- kinds that are bytes
+
+pub fit-none : (words : List ℕ) (at : ℕ) → true ≡ kindsFitIn 0 words at
+unfolding kindsFitIn
+fit-none words at = refl
+
+-- one kind more
+pub fit-more : (words : List ℕ) (at k : ℕ) {fit : Bool} → fit ≡ kindsFitIn k words at
+    → fit && leb (getD words (at + 7 * k) 0) 255 ≡ kindsFitIn (k + 1) words at
+unfolding kindsFitIn
+fit-more words at k e =
+    ap (λ (b : Bool). b && leb (getD words (at + 7 * k) 0) 255) e ∙ ap (λ (n : ℕ). kindsFitIn n words at) (sym (add-one k))
+
+pub fit-all : (words : List ℕ) (at k n : ℕ) {fit : Bool} → k ≡ n → fit ≡ kindsFitIn k words at → fit ≡ kindsFitIn n words at
+fit-all words at k n q e = e ∙ ap (λ (m : ℕ). kindsFitIn m words at) q
+
+-- what the test says, of the first n
+fit-in : (n : ℕ) (words : List ℕ) (at : ℕ) → kindsFitIn n words at ≡ true → (k : ℕ) → k < n → getD words (at + 7 * k) 0 ≤ 255
+unfolding kindsFitIn
+fit-in zero words at e k l = absurd (omega arith)
+fit-in (suc n) words at e k l = elim (ℕ-discrete k n) [
+  | yes q ↦ subst (λ (m : ℕ). getD words (at + 7 * m) 0 ≤ 255) (sym q) (leb-true _ 255 (and-right (kindsFitIn n words at) _ e))
+  | no q ↦ fit-in n words at (and-left (kindsFitIn n words at) _ e) k (omega arith)
+]
+
+in-fit : (n : ℕ) (words : List ℕ) (at : ℕ) → ((k : ℕ) → k < n → getD words (at + 7 * k) 0 ≤ 255) → kindsFitIn n words at ≡ true
+unfolding kindsFitIn
+in-fit zero words at h = refl
+in-fit (suc n) words at h = both (in-fit n words at (λ k l. h k (omega arith))) (le-leb _ 255 (h n (omega arith)))
+
+-- the test is true exactly where each kind is a byte
+pub kinds-fit : (words : List ℕ) (at : ℕ) → kindsFit words at ≡ true → KindsFit words at
+kinds-fit words at e = record { kind = fit-in checkCount words at e }
+
+pub fit-kinds : (words : List ℕ) (at : ℕ) → KindsFit words at → kindsFit words at ≡ true
+fit-kinds words at f = in-fit checkCount words at (f .kind)
+
+-- the kinds of rows are their reports'
+pub fit-rows : (rs : List Report) → length rs ≡ checkCount → ((k : ℕ) → k < checkCount → kindWord (getD rs k passed .verdict) ≤ 255)
+    → KindsFit (rowsOf rs) 0
+fit-rows rs n h =
+    record {
+      kind = λ k l.
+        let z : 7 * k ≡ 0 + 7 * k = omega arith in
+        subst (λ (m : ℕ). getD (rowsOf rs) m 0 ≤ 255) z (subst (λ (w : ℕ). w ≤ 255) (sym (row-kind rs k (omega arith))) (h k l));
+    }
+
+-- a report entered into rows whose kinds are bytes
+pub enter-fits : (rows : List ℕ) (k : ℕ) (r : Report) → length rows ≡ rowsSize → k < checkCount → kindWord (r .verdict) ≤ 255
+    → KindsFit rows 0 → KindsFit (sets rows (7 * k) (reportWords r)) 0
+enter-fits rows k r n l b f =
+    let rs : List Report = reportsIn rows 0 in
+    let c : length rs ≡ checkCount = reports-count checkCount rows 0 in
+    let read : rows ≡ rowsOf rs = rows-read rows n in
+    let put : sets rows (7 * k) (reportWords r) ≡ rowsOf (set rs k r) =
+      ap (λ (w : List ℕ). sets w (7 * k) (reportWords r)) read ∙ rows-set rs k r (omega arith) in
+    let word : (j : ℕ) → j < checkCount → kindWord (getD rs j passed .verdict) ≤ 255 = λ j s.
+      let z : 0 + 7 * j ≡ 7 * j = omega arith in
+      let w : getD rows (0 + 7 * j) 0 ≡ kindWord (getD rs j passed .verdict) = (λ i. getD (read i) (z i) 0) ∙ row-kind rs j (omega arith) in
+      subst (λ (x : ℕ). x ≤ 255) w (f .kind j s) in
+    let each : (j : ℕ) → j < checkCount → kindWord (getD (set rs k r) j passed .verdict) ≤ 255 = λ j s. elim (ℕ-discrete j k) [
+      | yes q ↦ subst (λ (x : Report). kindWord (x .verdict) ≤ 255)
+        (sym (ap (λ (m : ℕ). getD (set rs k r) m passed) q ∙ getD-set-same rs k r passed (omega arith))) b
+      | no q ↦ subst (λ (x : Report). kindWord (x .verdict) ≤ 255) (sym (getD-set-other rs k j r passed q)) (word j s)
+    ] in
+    subst (λ (w : List ℕ). KindsFit w 0) (sym put) (fit-rows (set rs k r) (length-set rs k r ∙ c) each)
+
+-- ---- what a check says, entered
+
+pub enter-clear : (rows : List ℕ) (k position : ℕ) {c : Case} → c ≡ Clear → EntersIn rows k c position rows
+enter-clear rows k position e = record { is = ap (λ (d : Case). enteredIn rows k d position) (sym e); fits = λ f. f }
+
+pub enter-fault : (rows : List ℕ) (k position : ℕ) {kind : ℕ} {e : Evidence} {c : Case} {rows′ : List ℕ}
+    → length rows ≡ rowsSize → k < checkCount → kind ≤ 255
+    → c ≡ Fault kind e → rows′ ≡ sets rows (7 * k) (reportWords (faulted position kind e)) → EntersIn rows k c position rows′
+enter-fault rows k position {kind} {e} n l b q w =
+    record {
+      is = w ∙ ap (λ (d : Case). enteredIn rows k d position) (sym q);
+      fits = λ f. subst (λ (r : List ℕ). KindsFit r 0) (sym w) (enter-fits rows k (faulted position kind e) n l b f);
+    }

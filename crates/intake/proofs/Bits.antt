@@ -1,0 +1,84 @@
+-- The bits of the checks that a record concerns: each tells of its check, and each arm of the decision has its kind's. Assumes nothing.
+use mathlib.Core.Path.{_≡_, refl, sym, ap, _∙_}
+use mathlib.Core.Bool.{Bool, true, false, cond}
+use mathlib.Core.List.{List, [], _∷_}
+use Prim.Native.Nat.{ℕ, _+_, _*_, _/_, _%_, _≤_, _<_}
+use native.Mathlib.Omega.{arith}
+use lib.Dec.{eqb}
+use borrow.Author.Tests.{ne-eqb}
+use Rattle.record.specs.Records.{TraceRecord}
+use Rattle.rules.specs.History.{anyOf}
+use Rattle.rules.specs.Checks.{Check, checks, checkAt, concernedBy}
+use Rattle.intake.specs.Refusals.{bitsFrom, concernedBits}
+use Rattle.intake.specs.Steps.{Tells}
+
+-- a bit's part of a sum
+unfoldable pub part : Bool → ℕ
+part b = cond b 1 0
+
+part-most : (b : Bool) → part b ≤ 1
+unfolding part
+part-most true = omega arith
+part-most false = omega arith
+
+part-off : (b : Bool) → (part b ≡ 1 → ⊥) → b ≡ false
+unfolding part
+part-off true n = absurd (n refl)
+part-off false n = refl
+
+weigh : (w : ℕ) (b : Bool) → cond b w 0 ≡ w * part b
+unfolding part
+weigh w true = omega arith
+weigh w false = omega arith
+
+-- the bits of a kind, one for each check
+module _ (kind : ℕ) where
+  unfoldable pub bit : ℕ → ℕ
+  bit k = part (concernedBy kind (checkAt k))
+
+  -- they are one sum
+  spelt : concernedBits kind
+      ≡ 1 * bit 0 + (2 * bit 1 + (4 * bit 2 + (8 * bit 3 + (16 * bit 4 + (32 * bit 5 + (64 * bit 6 + (128 * bit 7 + 0)))))))
+  unfolding concernedBits bitsFrom bit
+  spelt =
+      rw (weigh 1, weigh 2, weigh 4, weigh 8, weigh 16, weigh 32, weigh 64, weigh 128)
+
+  -- .. in which each is read by its weight
+  pub record Read : Type 0 where
+    pub b0 : concernedBits kind / 1 % 2 ≡ bit 0
+    pub b1 : concernedBits kind / 2 % 2 ≡ bit 1
+    pub b2 : concernedBits kind / 4 % 2 ≡ bit 2
+    pub b3 : concernedBits kind / 8 % 2 ≡ bit 3
+    pub b4 : concernedBits kind / 16 % 2 ≡ bit 4
+    pub b5 : concernedBits kind / 32 % 2 ≡ bit 5
+    pub b6 : concernedBits kind / 64 % 2 ≡ bit 6
+    pub b7 : concernedBits kind / 128 % 2 ≡ bit 7
+    pub most : concernedBits kind < 256
+
+  most : (k : ℕ) → bit k ≤ 1
+  unfolding bit
+  most k = part-most _
+
+  pub read : Read
+  read =
+      let s = spelt in
+      let m0 = most 0 in let m1 = most 1 in let m2 = most 2 in let m3 = most 3 in
+      let m4 = most 4 in let m5 = most 5 in let m6 = most 6 in let m7 = most 7 in
+      record {
+        b0 = omega arith;
+        b1 = omega arith;
+        b2 = omega arith;
+        b3 = omega arith;
+        b4 = omega arith;
+        b5 = omega arith;
+        b6 = omega arith;
+        b7 = omega arith;
+        most = omega arith;
+      }
+
+  pub bits-small : concernedBits kind < 256
+  bits-small = read .most
+
+  pub off : (k w : ℕ) → concernedBits kind / w % 2 ≡ bit k → (concernedBits kind / w % 2 ≡ 1 → ⊥) → concernedBy kind (checkAt k) ≡ false
+  unfolding bit
+  off k w e n = part-off _ (λ q. n (e ∙ q))

@@ -1,0 +1,158 @@
+-- What is decided of a record, refusal by refusal, and what a record that is not refused has. Assumes nothing.
+use mathlib.Core.Path.{_≡_, refl, sym, ap, _∙_}
+use mathlib.Core.Bool.{Bool, true, false, cond}
+use mathlib.Core.List.{List, [], _∷_}
+use Prim.Native.Nat.{ℕ, zero, suc, _+_, _≤_, _<_}
+use native.Mathlib.Omega.{arith}
+use native.Mathlib.Decide.{ℕ-discrete}
+use lib.ListN.{length}
+use lib.Dec.{eqb}
+use borrow.Author.Tests.{eqb-true, eqb-false, eq-eqb, ne-eqb}
+use Rattle.record.specs.declared.kind.Shaped.{Shaped}
+use Rattle.record.specs.declared.kind.Shaped.the-variants.{Known, Unknown}
+use Rattle.record.specs.Numbers.{byteAt}
+use Rattle.record.specs.KindTable.{shapeOf}
+use Rattle.record.specs.Form.{valuesFit, unusedClear, shapedRefusal, refusalOf}
+use Rattle.record.proofs.Shapes.{past}
+use Rattle.record.proofs.Sound.{wrong-size, by-shape}
+use Rattle.rules.proofs.Booleans.{never}
+use Rattle.history.specs.Bounds.{Bounds}
+use Rattle.intake.specs.Refusals.{suitsBy, orFull, pushRefusalBy, concernedBits, decided, soundBy}
+use Rattle.intake.proofs.Suiting.{Suiting, suiting, bounded}
+use Rattle.intake.proofs.Bits.{bits-small}
+
+-- ---- each way to decide
+
+module _ (cap count logs words : ℕ) (bytes : List ℕ) (kind : ℕ) where
+  pub decided-unfit : suitsBy cap count logs words ≡ false → 261 ≡ decided (pushRefusalBy cap count logs words bytes) kind
+  decided-unfit e = sym (ap (λ (b : Bool). decided (cond b (orFull (refusalOf bytes) cap count) 5) kind) e)
+
+  -- a form that draws a refusal
+  pub decided-form : (f : ℕ) → (f ≡ 0 → ⊥) → suitsBy cap count logs words ≡ true → refusalOf bytes ≡ f
+      → 256 + f ≡ decided (pushRefusalBy cap count logs words bytes) kind
+  decided-form f n e r =
+      let z : eqb f 0 ≡ false = ne-eqb f 0 n in
+      sym (ap (λ (b : Bool). decided (cond b (orFull (refusalOf bytes) cap count) 5) kind) e
+      ∙ ap (λ (g : ℕ). decided (orFull g cap count) kind) r
+      ∙ ap (λ (b : Bool). decided (cond b (cond (eqb count cap) 6 0) f) kind) z
+      ∙ ap (λ (b : Bool). cond b (concernedBits kind) (256 + f)) z)
+
+  -- the rest, by the checks that the kind concerns
+  pub decided-sound : {r concerned : ℕ} → suitsBy cap count logs words ≡ true → concerned ≡ concernedBits kind
+      → r ≡ soundBy (refusalOf bytes) count cap concerned → r ≡ decided (pushRefusalBy cap count logs words bytes) kind
+  decided-sound e q u =
+      u ∙ ap (soundBy (refusalOf bytes) count cap) q
+      ∙ sym (ap (λ (b : Bool). decided (cond b (orFull (refusalOf bytes) cap count) 5) kind) e)
+
+-- what stands in `sound`, refusal by refusal
+module _ (form count cap concerned : ℕ) where
+  pub sound-form : (form ≡ 0 → ⊥) → 256 + form ≡ soundBy form count cap concerned
+  sound-form n =
+      let z : eqb form 0 ≡ false = ne-eqb form 0 n in
+      sym (ap (λ (b : Bool). cond (eqb (cond b (cond (eqb count cap) 6 0) form) 0) concerned (256 + cond b (cond (eqb count cap) 6 0) form)) z
+      ∙ ap (λ (b : Bool). cond b concerned (256 + form)) z)
+
+  pub sound-full : form ≡ 0 → eqb count cap ≡ true → 262 ≡ soundBy form count cap concerned
+  sound-full e f = sym (rw (e, f))
+
+  pub sound-clear : form ≡ 0 → eqb count cap ≡ false → concerned ≡ soundBy form count cap concerned
+  sound-clear e f = sym (rw (e, f))
+
+-- a kind that is none of document 01's
+unknown-kind : (kind : ℕ) → (1 ≤ kind → kind ≤ 12 → ⊥) → shapeOf kind ≡ Unknown
+unknown-kind zero n = refl
+unknown-kind (suc k) n = past (suc k) (let m = n (omega arith) in omega arith)
+
+pub wrong-kind : (bytes : List ℕ) → length bytes ≡ 368 → (1 ≤ byteAt 0 bytes → byteAt 0 bytes ≤ 12 → ⊥) → refusalOf bytes ≡ 2
+wrong-kind bytes l n = by-shape bytes l Unknown (unknown-kind (byteAt 0 bytes) n)
+
+-- ---- what a decision says
+
+module _ (refusal kind : ℕ) where
+  -- below 256 there is no refusal, and the checks' bits
+  decided-by : (b : Bool) → eqb refusal 0 ≡ b → (256 ≤ cond b (concernedBits kind) (256 + refusal) → ⊥) → (refusal ≡ 0) × (cond b (concernedBits kind) (256 + refusal) ≡ concernedBits kind)
+  decided-by true e n = (eqb-true _ _ e, refl)
+  decided-by false e n = absurd (n (omega arith))
+
+  pub decided-taken : {d : ℕ} → d ≡ decided refusal kind → (256 ≤ d → ⊥) → (refusal ≡ 0) × (d ≡ concernedBits kind)
+  decided-taken q n =
+      let w = decided-by (eqb refusal 0) refl (λ l. n (omega arith)) in
+      (w .0, q ∙ w .1)
+
+  -- from 256 on there is one, and its number
+  refused-by : (b : Bool) → eqb refusal 0 ≡ b → 256 ≤ cond b (concernedBits kind) (256 + refusal) → (cond b (concernedBits kind) (256 + refusal) ≡ 256 + refusal) × (refusal ≡ 0 → ⊥)
+  refused-by true e l = absurd (let m = bits-small kind in omega arith)
+  refused-by false e l = (refl, eqb-false _ _ e)
+
+  pub decided-refused : {d : ℕ} → d ≡ decided refusal kind → 256 ≤ d → (d ≡ 256 + refusal) × (refusal ≡ 0 → ⊥)
+  decided-refused q l =
+      let w = refused-by (eqb refusal 0) refl (omega arith) in
+      (q ∙ w .0, w .1)
+
+-- ---- what a record that is not refused has
+
+suits-zero : (b : Bool) (x : ℕ) → cond b x 5 ≡ 0 → (b ≡ true) × (x ≡ 0)
+suits-zero true x e = (refl, e)
+suits-zero false x e = absurd (omega arith)
+
+full-zero : (form : ℕ) (full b : Bool) → eqb form 0 ≡ b → cond b (cond full 6 0) form ≡ 0 → (form ≡ 0) × (full ≡ false)
+full-zero form true true e z = absurd (omega arith)
+full-zero form false true e z = (eqb-true form 0 e, refl)
+full-zero form full false e z = absurd (eqb-false form 0 e z)
+
+sized : (bytes : List ℕ) → refusalOf bytes ≡ 0 → length bytes ≡ 368
+sized bytes z = elim (ℕ-discrete (length bytes) 368) [
+  | yes e ↦ e
+  | no n ↦ absurd (let w = wrong-size bytes n in omega arith)
+]
+
+-- the numbers and lengths where nothing is refused
+pub record Room (cap count : ℕ) (log work bytes : List ℕ) : Type 0 where
+  pub suits : Suiting cap count (length log) (length work)
+  pub room : count < cap
+  pub size : length bytes ≡ 368
+
+pub room-of : {cap count : ℕ} {log work bytes : List ℕ} → pushRefusalBy cap count (length log) (length work) bytes ≡ 0 → Room cap count log work bytes
+room-of {cap} {count} {log} {work} {bytes} z =
+    let s = suits-zero (suitsBy cap count (length log) (length work)) (orFull (refusalOf bytes) cap count) z in
+    let f = full-zero (refusalOf bytes) (eqb count cap) (eqb (refusalOf bytes) 0) refl (s .1) in
+    let u = suiting (s .0) in
+    let l : count ≤ cap = u .within in
+    let n : count ≡ cap → ⊥ = eqb-false _ _ (f .1) in
+    record { suits = u; room = omega arith; size = sized bytes (f .0) }
+
+pub room-bounds : {cap count : ℕ} {log work bytes : List ℕ} → Room cap count log work bytes → Bounds log work count cap
+room-bounds r = let d = r .room in bounded (r .suits) (λ z. omega arith)
+
+-- ---- a push's refusals end at 6
+
+values-few : (a b : Bool) → cond a (cond b 0 4) 3 ≤ 4
+values-few true true = omega arith
+values-few true false = omega arith
+values-few false b = omega arith
+
+shaped-few : (k : Shaped) (bytes : List ℕ) → shapedRefusal k bytes ≤ 4
+shaped-few Unknown bytes = omega arith
+shaped-few (Known k) bytes = values-few (valuesFit k bytes) (unusedClear k bytes)
+
+size-few : (b : Bool) (x : ℕ) → x ≤ 4 → cond b x 1 ≤ 4
+size-few true x l = l
+size-few false x l = omega arith
+
+form-few : (bytes : List ℕ) → refusalOf bytes ≤ 4
+unfolding refusalOf
+form-few bytes = size-few (eqb (length bytes) 368) (shapedRefusal (shapeOf (byteAt 0 bytes)) bytes) (shaped-few (shapeOf (byteAt 0 bytes)) bytes)
+
+full-few : (form : ℕ) (full b : Bool) → form ≤ 4 → cond b (cond full 6 0) form ≤ 6
+full-few form true true l = omega arith
+full-few form false true l = omega arith
+full-few form full false l = omega arith
+
+few-by : (b : Bool) (x : ℕ) → x ≤ 6 → cond b x 5 ≤ 6
+few-by true x l = l
+few-by false x l = omega arith
+
+pub push-few : (cap count logs words : ℕ) (bytes : List ℕ) → pushRefusalBy cap count logs words bytes ≤ 6
+push-few cap count logs words bytes =
+    few-by (suitsBy cap count logs words) (orFull (refusalOf bytes) cap count)
+    (full-few (refusalOf bytes) (eqb count cap) (eqb (refusalOf bytes) 0) (form-few bytes))

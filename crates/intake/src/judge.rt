@@ -1,0 +1,35 @@
+// A record, judged by the checks that it concerns: a fault's words are written to the check's row, and nothing else is.
+use crate::step::next_agreement;
+use crate::step::next_generations;
+use crate::step::next_half;
+use crate::step::next_ids;
+use crate::step::next_install;
+use crate::step::next_meta;
+use crate::step::next_overlap;
+use crate::step::next_twice;
+ghost use Rattle.intake.specs.Steps.{Ready, JudgedIn};
+
+// The rows of the reports with the record. Its position is computed here, once for all checks.
+pub fn judge<'a>(
+    log: &'a [u8],
+    work: &[u64],
+    rows: &mut [u64],
+    n: usize,
+    cap: usize,
+    tenant: u64,
+    rec: &'a [u8],
+    concerned: u64,
+)
+    requires { ⌜ Ready (now log) (now work) n cap (now rec) (now rows) ⌝ }
+    ensures { λ _. ⌜ JudgedIn (record { tenant = tenant }) cap (now (log .entry)) (now (work .entry)) n (now (rec .entry)) concerned (now (rows .entry)) (now (rows .exit)) ⌝ }
+{
+    let position = (n + 1) as u64;
+    next_agreement(rows, log, work, n, cap, rec, concerned, position);
+    next_overlap(rows, log, work, n, cap, rec, concerned, position);
+    next_install(rows, log, work, n, cap, tenant, rec, concerned, position);
+    next_twice(rows, log, work, n, cap, rec, concerned, position);
+    next_half(rows, log, work, n, cap, rec, concerned, position);
+    next_generations(rows, log, work, n, cap, rec, concerned, position);
+    next_ids(rows, log, work, n, cap, rec, concerned, position);
+    next_meta(rows, log, work, n, cap, rec, concerned, position);
+}

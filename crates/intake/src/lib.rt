@@ -1,0 +1,7 @@
+// The judge's core: one record, taken by numbers and slices alone. It is refused or decided upon, judged by the checks that it
+// concerns, noted in the work area and appended to the log: four functions, of which the first two change neither.
+pub mod decide;
+pub mod judge;
+pub mod note;
+mod step;
+pub mod take;

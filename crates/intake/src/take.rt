@@ -1,0 +1,33 @@
+// One record, taken or refused.
+use crate::decide::REFUSED;
+use crate::decide::decide;
+use crate::judge::judge;
+use crate::note::note;
+use history::log::append;
+ghost use mathlib.Core.Path.{_≡_};
+ghost use lib.ListN.{length};
+ghost use Rattle.rows.specs.Rows.{rowsSize};
+ghost use Rattle.intake.specs.Takes.{TakesIn};
+
+// Takes a record after n others, and gives 0; or gives the number of its refusal, and everything is as it stood.
+pub fn take(
+    log: &mut [u8],
+    work: &mut [u64],
+    rows: &mut [u64],
+    n: usize,
+    cap: usize,
+    tenant: u64,
+    rec: &[u8],
+) -> u64
+    requires { ⌜ length (now rows) ≡ rowsSize ⌝ }
+    ensures { λ r. ⌜ TakesIn (record { tenant = tenant }) cap n (now (log .entry)) (now (work .entry)) (now (rows .entry)) (now (rec .entry)) r (now (log .exit)) (now (work .exit)) (now (rows .exit)) ⌝ }
+{
+    let decided = decide(log.len(), work.len(), n, cap, rec);
+    if REFUSED <= decided {
+        return decided - REFUSED;
+    }
+    judge(log, work, rows, n, cap, tenant, rec, decided);
+    note(log, work, n, cap, rec);
+    append(log, n, rec);
+    0
+}
