@@ -29,8 +29,8 @@ use Rattle.history.specs.Logs.{hist}
 use Rattle.history.proofs.Logs.{hist-length}
 use Rattle.intake.specs.Refusals.{concernedBits}
 use Rattle.intake.specs.Words.{Indexed}
-use Rattle.intake.specs.Steps.{Tells, SteppedIn, JudgedIn}
-use Rattle.intake.proofs.Bits.{Read, read, off}
+use Rattle.intake.specs.Steps.{Ready, Tells, SteppedIn, JudgedIn}
+use Rattle.intake.proofs.Bits.{bit, read, off}
 
 -- ---- what a row's first word tells
 
@@ -116,3 +116,35 @@ module _ (k w : ℕ) (l : k < checkCount) (cap : ℕ) (log work : List ℕ) (n :
         let q : at ≡ position (x ∷ h) = p ∙ (let m = hist-length log n in omega arith) in
         e .is ∙ ap (enteredIn rows k c) q ∙ entered-by k l o x h rows rs many are old c (sym (says i v)) v;
   }
+
+-- ---- all of them
+
+pub ready-more : {log work bytes rows rows′ : List ℕ} {n cap : ℕ} → Ready log work n cap bytes rows → length rows′ ≡ length rows → Ready log work n cap bytes rows′
+ready-more r e = record { bounds = r .bounds; size = r .size; rows-size = e ∙ r .rows-size }
+
+-- each check has stepped its own row
+pub judged-all : (o : Opening) (cap : ℕ) (log work : List ℕ) (n : ℕ) (bytes : List ℕ) (concerned at : ℕ) → at ≡ n + 1
+    → {r0 r1 r2 r3 r4 r5 r6 r7 r8 : List ℕ}
+    → SteppedIn 0 1 o cap log work n bytes concerned at r0 r1 → SteppedIn 1 2 o cap log work n bytes concerned at r1 r2
+    → SteppedIn 2 4 o cap log work n bytes concerned at r2 r3 → SteppedIn 3 8 o cap log work n bytes concerned at r3 r4
+    → SteppedIn 4 16 o cap log work n bytes concerned at r4 r5 → SteppedIn 5 32 o cap log work n bytes concerned at r5 r6
+    → SteppedIn 6 64 o cap log work n bytes concerned at r6 r7 → SteppedIn 7 128 o cap log work n bytes concerned at r7 r8
+    → JudgedIn o cap log work n bytes concerned r0 r8
+unfolding reportsOf
+judged-all o cap log work n bytes concerned at p s0 s1 s2 s3 s4 s5 s6 s7 = record {
+  size = s7 .size ∙ s6 .size ∙ s5 .size ∙ s4 .size ∙ s3 .size ∙ s2 .size ∙ s1 .size ∙ s0 .size;
+  fits = λ f. s7 .fits (s6 .fits (s5 .fits (s4 .fits (s3 .fits (s2 .fits (s1 .fits (s0 .fits f)))))));
+  judged = λ i q are.
+      let x = decode bytes in
+      let b = read (x .kind) in
+      let tells : (k w : ℕ) → concernedBits (x .kind) / w % 2 ≡ bit (x .kind) k → Tells k w concerned x =
+      λ k w e z. off (x .kind) k w e (λ y. z (ap (λ (d : ℕ). d / w % 2) q ∙ y)) in
+      let a1 = s0 .steps i p (tells 0 1 (b .b0)) _ refl are refl in
+      let a2 = s1 .steps i p (tells 1 2 (b .b1)) _ refl a1 refl in
+      let a3 = s2 .steps i p (tells 2 4 (b .b2)) _ refl a2 refl in
+      let a4 = s3 .steps i p (tells 3 8 (b .b3)) _ refl a3 refl in
+      let a5 = s4 .steps i p (tells 4 16 (b .b4)) _ refl a4 refl in
+      let a6 = s5 .steps i p (tells 5 32 (b .b5)) _ refl a5 refl in
+      let a7 = s6 .steps i p (tells 6 64 (b .b6)) _ refl a6 refl in
+      s7 .steps i p (tells 7 128 (b .b7)) _ refl a7 refl;
+}

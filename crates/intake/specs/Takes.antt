@@ -14,9 +14,9 @@ use Rattle.intake.specs.Words.{Indexed, Noted}
 -- a record that is taken: its bytes in the log and no other byte of it changed, its words noted, and the rows those of the reports
 -- with one more record
 pub record TakenIn (o : Opening) (cap n : ℕ) (log work rows bytes log′ work′ rows′ : List ℕ) : Type 0 where
-  pub log : Appended log log′ n bytes
-  pub work : Noted cap (hist log n) (decode bytes) work work′
-  pub rows : Indexed cap (hist log n) work → rows ≡ rowsOf (reportsOf o (hist log n)) → rows′ ≡ rowsOf (reportsOf o (decode bytes ∷ hist log n))
+  pub appended : Appended log log′ n bytes
+  pub noted : Noted cap (hist log n) (decode bytes) work work′
+  pub judged : Indexed cap (hist log n) work → rows ≡ rowsOf (reportsOf o (hist log n)) → rows′ ≡ rowsOf (reportsOf o (decode bytes ∷ hist log n))
 
 -- taken, or refused by the table, and then everything is as it stood
 pub record TakesIn (o : Opening) (cap n : ℕ) (log work rows bytes : List ℕ) (r : ℕ) (log′ work′ rows′ : List ℕ) : Type 0 where

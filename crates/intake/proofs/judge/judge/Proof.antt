@@ -1,60 +1,115 @@
+-- `judge`: each check steps its own row, one after the other.
+use mathlib.Core.Path.{_≡_, refl, _∙_}
+use Prim.Native.Nat.{_+_}
+use native.Mathlib.Omega.{arith}
+use lib.ListN.{length}
 use borrow.Author.Needs.{needs}
+use Rattle.rules.specs.declared.Opening.{Opening}
+use Rattle.intake.specs.Steps.{Ready}
+use Rattle.intake.proofs.Steps.{ready-more, judged-all}
 use Rattle.intake.proofs.judge.judge.Statement.{statement}
 use Rattle.intake.proofs.judge.judge.Tie as tie
-use Rattle.intake.proofs.judge.judge.Reads as reads
-use Rattle.intake.proofs.judge.judge.Lts as lts
-use Rattle.intake.proofs.step.next_agreement.Reads as next-agreement-reads
-use Rattle.intake.proofs.step.next_generations.Reads as next-generations-reads
-use Rattle.intake.proofs.step.next_half.Reads as next-half-reads
-use Rattle.intake.proofs.step.next_ids.Reads as next-ids-reads
-use Rattle.intake.proofs.step.next_install.Reads as next-install-reads
-use Rattle.intake.proofs.step.next_meta.Reads as next-meta-reads
-use Rattle.intake.proofs.step.next_overlap.Reads as next-overlap-reads
-use Rattle.intake.proofs.step.next_twice.Reads as next-twice-reads
 
--- src/judge.rt:26:21
+-- an opening to ask sizes of
+abbrev any : Opening
+any = record { tenant = 0 }
+
 add-position : tie.Need-add-position
 add-position c = search needs
 
--- src/judge.rt:27:5
 next-agreement-requires : tie.Need-next-agreement-requires
 next-agreement-requires c κs = search needs
 
--- src/judge.rt:28:5
 next-overlap-requires : tie.Need-next-overlap-requires
-next-overlap-requires c κs = search needs
+next-overlap-requires c κs =
+    let c1 = c .before .before .before in
+    ready-more (c1 .before .before .before .before .before .before .pre) (c1 .next-agreement .ensures any .size)
 
--- src/judge.rt:29:5
 next-install-requires : tie.Need-next-install-requires
-next-install-requires c κs = search needs
+next-install-requires c κs =
+    let c2 = c .before .before .before in
+    let c1 = c2 .before .before .before .before in
+    ready-more (c1 .before .before .before .before .before .before .pre) (c2 .next-overlap .ensures any .size ∙ c1 .next-agreement .ensures any .size)
 
--- src/judge.rt:30:5
 next-twice-requires : tie.Need-next-twice-requires
-next-twice-requires c κs = search needs
+next-twice-requires c κs =
+    let c3 = c .before .before .before in
+    let c2 = c3 .before .before .before .before in
+    let c1 = c2 .before .before .before .before in
+    ready-more (c1 .before .before .before .before .before .before .pre) (c3 .next-install .ensures .size ∙ c2 .next-overlap .ensures any .size ∙ c1 .next-agreement .ensures any .size)
 
--- src/judge.rt:31:5
 next-half-requires : tie.Need-next-half-requires
-next-half-requires c κs = search needs
+next-half-requires c κs =
+    let c4 = c .before .before .before in
+    let c3 = c4 .before .before .before .before in
+    let c2 = c3 .before .before .before .before in
+    let c1 = c2 .before .before .before .before in
+    ready-more (c1 .before .before .before .before .before .before .pre) (c4 .next-twice .ensures any .size ∙ c3 .next-install .ensures .size ∙ c2 .next-overlap .ensures any .size ∙ c1 .next-agreement .ensures any .size)
 
--- src/judge.rt:32:5
 next-generations-requires : tie.Need-next-generations-requires
-next-generations-requires c κs = search needs
+next-generations-requires c κs =
+    let c5 = c .before .before .before in
+    let c4 = c5 .before .before .before .before in
+    let c3 = c4 .before .before .before .before in
+    let c2 = c3 .before .before .before .before in
+    let c1 = c2 .before .before .before .before in
+    ready-more (c1 .before .before .before .before .before .before .pre) (c5 .next-half .ensures any .size ∙ c4 .next-twice .ensures any .size ∙ c3 .next-install .ensures .size ∙ c2 .next-overlap .ensures any .size ∙ c1 .next-agreement .ensures any .size)
 
--- src/judge.rt:33:5
 next-ids-requires : tie.Need-next-ids-requires
-next-ids-requires c κs = search needs
+next-ids-requires c κs =
+    let c6 = c .before .before .before in
+    let c5 = c6 .before .before .before .before in
+    let c4 = c5 .before .before .before .before in
+    let c3 = c4 .before .before .before .before in
+    let c2 = c3 .before .before .before .before in
+    let c1 = c2 .before .before .before .before in
+    ready-more (c1 .before .before .before .before .before .before .pre) (c6 .next-generations .ensures any .size ∙ c5 .next-half .ensures any .size ∙ c4 .next-twice .ensures any .size ∙ c3 .next-install .ensures .size ∙ c2 .next-overlap .ensures any .size ∙ c1 .next-agreement .ensures any .size)
 
--- src/judge.rt:34:5
 next-meta-requires : tie.Need-next-meta-requires
-next-meta-requires c κs = search needs
+next-meta-requires c κs =
+    let c7 = c .before .before .before in
+    let c6 = c7 .before .before .before .before in
+    let c5 = c6 .before .before .before .before in
+    let c4 = c5 .before .before .before .before in
+    let c3 = c4 .before .before .before .before in
+    let c2 = c3 .before .before .before .before in
+    let c1 = c2 .before .before .before .before in
+    ready-more (c1 .before .before .before .before .before .before .pre) (c7 .next-ids .ensures any .size ∙ c6 .next-generations .ensures any .size ∙ c5 .next-half .ensures any .size ∙ c4 .next-twice .ensures any .size ∙ c3 .next-install .ensures .size ∙ c2 .next-overlap .ensures any .size ∙ c1 .next-agreement .ensures any .size)
 
--- src/judge.rt:13:1
 same-length : tie.Need-same-length
-same-length c = search needs
+same-length c =
+    let c8 = c .before .before in
+    let c7 = c8 .before .before .before .before in
+    let c6 = c7 .before .before .before .before in
+    let c5 = c6 .before .before .before .before in
+    let c4 = c5 .before .before .before .before in
+    let c3 = c4 .before .before .before .before in
+    let c2 = c3 .before .before .before .before in
+    let c1 = c2 .before .before .before .before in
+    c8 .next-meta .ensures any .size ∙ c7 .next-ids .ensures any .size ∙ c6 .next-generations .ensures any .size ∙ c5 .next-half .ensures any .size ∙ c4 .next-twice .ensures any .size ∙ c3 .next-install .ensures .size ∙ c2 .next-overlap .ensures any .size ∙ c1 .next-agreement .ensures any .size
 
--- src/judge.rt:13:1
 returns : tie.Need-returns
-returns c = search needs
+returns c =
+    let c8 = c .before .before in
+    let c7 = c8 .before .before .before .before in
+    let c6 = c7 .before .before .before .before in
+    let c5 = c6 .before .before .before .before in
+    let c4 = c5 .before .before .before .before in
+    let c3 = c4 .before .before .before .before in
+    let c2 = c3 .before .before .before .before in
+    let c1 = c2 .before .before .before .before in
+    let s = c1 .before .before .before .before .before .before in
+    let a = s .args in
+    let o : Opening = record { tenant = a .tenant } in
+    judged-all o (a .cap) (a .log .now) (a .work .now) (a .n) (a .rec .now) (a .concerned) (a .n + 1) refl
+    (c1 .next-agreement .ensures o)
+    (c2 .next-overlap .ensures o)
+    (c3 .next-install .ensures)
+    (c4 .next-twice .ensures o)
+    (c5 .next-half .ensures o)
+    (c6 .next-generations .ensures o)
+    (c7 .next-ids .ensures o)
+    (c8 .next-meta .ensures o)
 
 pub judge-spec : {M : Type 1} → statement M
 judge-spec =
