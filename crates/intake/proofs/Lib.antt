@@ -3,5 +3,6 @@ pub mod Suiting
 pub mod Bits
 pub mod Decisions
 pub mod Steps
+pub mod Takes
 pub mod Notes
 pub mod WorkArea
