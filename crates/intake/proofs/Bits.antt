@@ -82,3 +82,43 @@ module _ (kind : ℕ) where
   pub off : (k w : ℕ) → concernedBits kind / w % 2 ≡ bit k → (concernedBits kind / w % 2 ≡ 1 → ⊥) → concernedBy kind (checkAt k) ≡ false
   unfolding bit
   off k w e n = part-off _ (λ q. n (e ∙ q))
+
+-- ---- the bits of each kind, as the decision's arms have them
+
+pub bits-1 : concernedBits 1 ≡ 27
+unfolding concernedBits bitsFrom anyOf
+bits-1 = refl
+
+pub bits-2 : concernedBits 2 ≡ 19
+unfolding concernedBits bitsFrom anyOf
+bits-2 = refl
+
+pub bits-3 : concernedBits 3 ≡ 48
+unfolding concernedBits bitsFrom anyOf
+bits-3 = refl
+
+pub bits-5 : concernedBits 5 ≡ 16
+unfolding concernedBits bitsFrom anyOf
+bits-5 = refl
+
+pub bits-8 : concernedBits 8 ≡ 4
+unfolding concernedBits bitsFrom anyOf
+bits-8 = refl
+
+pub bits-11 : concernedBits 11 ≡ 64
+unfolding concernedBits bitsFrom anyOf
+bits-11 = refl
+
+pub bits-12 : concernedBits 12 ≡ 128
+unfolding concernedBits bitsFrom anyOf
+bits-12 = refl
+
+-- kinds that no check names
+pub bits-4 : concernedBits 4 ≡ 0
+unfolding concernedBits bitsFrom anyOf
+bits-4 = refl
+
+module _ (k : ℕ) (n1 : k ≡ 1 → ⊥) (n2 : k ≡ 2 → ⊥) (n3 : k ≡ 3 → ⊥) (n5 : k ≡ 5 → ⊥) (n8 : k ≡ 8 → ⊥) (n11 : k ≡ 11 → ⊥) (n12 : k ≡ 12 → ⊥) where
+  pub bits-none : concernedBits k ≡ 0
+  unfolding concernedBits bitsFrom anyOf
+  bits-none = rw (ne-eqb k 1 n1, ne-eqb k 2 n2, ne-eqb k 3 n3, ne-eqb k 5 n5, ne-eqb k 8 n8, ne-eqb k 11 n11, ne-eqb k 12 n12)

@@ -70,7 +70,8 @@ wrong-kind bytes l n = by-shape bytes l Unknown (unknown-kind (byteAt 0 bytes) n
 
 module _ (refusal kind : ℕ) where
   -- below 256 there is no refusal, and the checks' bits
-  decided-by : (b : Bool) → eqb refusal 0 ≡ b → (256 ≤ cond b (concernedBits kind) (256 + refusal) → ⊥) → (refusal ≡ 0) × (cond b (concernedBits kind) (256 + refusal) ≡ concernedBits kind)
+  decided-by : (b : Bool) → eqb refusal 0 ≡ b → (256 ≤ cond b (concernedBits kind) (256 + refusal) → ⊥)
+      → (refusal ≡ 0) × (cond b (concernedBits kind) (256 + refusal) ≡ concernedBits kind)
   decided-by true e n = (eqb-true _ _ e, refl)
   decided-by false e n = absurd (n (omega arith))
 
@@ -80,7 +81,8 @@ module _ (refusal kind : ℕ) where
       (w .0, q ∙ w .1)
 
   -- from 256 on there is one, and its number
-  refused-by : (b : Bool) → eqb refusal 0 ≡ b → 256 ≤ cond b (concernedBits kind) (256 + refusal) → (cond b (concernedBits kind) (256 + refusal) ≡ 256 + refusal) × (refusal ≡ 0 → ⊥)
+  refused-by : (b : Bool) → eqb refusal 0 ≡ b → 256 ≤ cond b (concernedBits kind) (256 + refusal)
+      → (cond b (concernedBits kind) (256 + refusal) ≡ 256 + refusal) × (refusal ≡ 0 → ⊥)
   refused-by true e l = absurd (let m = bits-small kind in omega arith)
   refused-by false e l = (refl, eqb-false _ _ e)
 

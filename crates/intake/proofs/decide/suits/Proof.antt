@@ -1,24 +1,42 @@
-use borrow.Author.Needs.{needs}
+-- suits: the numbers' test comes first, so that the products fit; the lengths are then read together.
+use mathlib.Core.Path.{_≡_, sym, ap}
+use mathlib.Core.Bool.{Bool, true, _&&_}
+use Prim.Native.Nat.{ℕ, _*_, _≤_}
+use native.Mathlib.Omega.{arith}
+use lib.Dec.{eqb}
+use borrow.Author.Tests.{not-true, not-false}
+use Rattle.intake.specs.Refusals.{fitsBy}
+use Rattle.intake.proofs.Suiting.{small-by}
 use Rattle.intake.proofs.decide.suits.Statement.{statement}
 use Rattle.intake.proofs.decide.suits.Tie as tie
-use Rattle.intake.proofs.decide.suits.Reads as reads
-use Rattle.intake.proofs.decide.suits.Lts as lts
 
--- src/decide.rt:42:9
+abbrev lengths : ℕ → ℕ → ℕ → Bool
+lengths capacity logs words = eqb logs (368 * capacity) && eqb words (32 * capacity)
+
 returns : tie.Need-returns
-returns c = search needs
+returns c =
+    let a = c .before .args in
+    let h = not-true (fitsBy (a .cap) (a .count)) (c .if1 .taken) in
+    sym (ap (λ (b : Bool). b && lengths (a .cap) (a .logs) (a .words)) h)
 
--- src/decide.rt:44:14
+-- where the numbers fit
+module _ (c : tie.Else1) where
+  fit : fitsBy (c .before .args .cap) (c .before .args .count) ≡ true
+  fit = not-false (fitsBy (c .before .args .cap) (c .before .args .count)) (c .if1 .left)
+
+  small : c .before .args .cap ≤ 4096
+  small = small-by (c .before .args .cap) (c .before .args .count) fit
+
 mul-result : tie.Need-mul-result
-mul-result c = search needs
+mul-result c = omega (arith, small c)
 
--- src/decide.rt:44:45
 mul-result-2 : tie.Need-mul-result-2
-mul-result-2 c = search needs
+mul-result-2 c = omega (arith, small c)
 
--- src/decide.rt:38:1
 returns-2 : tie.Need-returns-2
-returns-2 c = search needs
+returns-2 c =
+    let a = c .before .args in
+    ap (λ (b : Bool). b && lengths (a .cap) (a .logs) (a .words)) (sym (fit c))
 
 pub suits-spec : {M : Type 1} → statement M
 suits-spec = tie.close (tie.spec returns mul-result mul-result-2 returns-2)
