@@ -23,10 +23,10 @@ use Rattle.judge.specs.declared.lookup.Question.{Question}
 use Rattle.judge.specs.declared.lookup.Question.the-variants.{Before, At, FirstAtGeneration, Statements, IsEmpty, HoldersOf, Blocks}
 use Rattle.judge.specs.declared.state.Judge.{Judge}
 use Rattle.judge.specs.declared.state.Refusal.the-variants.{Nothing, Judge as Unfit, Output}
-use Rattle.judge.specs.Words.{Indexed}
+use Rattle.intake.specs.Words.{Indexed}
 use Rattle.judge.specs.Lookups.{valueOf, wordsOf, ListedBy, lends, Answered, Short, LookedBy}
 use Rattle.judge.proofs.lookup.Question as QuestionT
-use Rattle.judge.proofs.Suiting.{Suiting, suiting}
+use Rattle.intake.proofs.Suiting.{Suiting, suiting}
 
 -- no words are written of no records
 pub none-words : (q : Question) → wordsOf q [] ≡ []

@@ -8,7 +8,9 @@ use lib.ListN.{length, replicate, length-replicate}
 use lib.Dec.{eqb}
 use borrow.Author.Tests.{eqb-false, ne-eqb}
 use Rattle.record.proofs.Keys.{never}
+use Rattle.rules.specs.declared.Opening.{Opening}
 use Rattle.rules.specs.Reports.{passed, reportOf}
+use Rattle.rules.specs.Checks.{checkCount, reportsOf}
 use Rattle.history.proofs.Logs.{hist-none}
 use Rattle.history.proofs.Cells.{Zeros, zeros, column-clear}
 use Rattle.history.proofs.Chains.{chained-clear}
@@ -21,12 +23,13 @@ use Rattle.right_half.proofs.Openings.{half-clear}
 use Rattle.judge.specs.declared.opening.Opened.{Opened}
 use Rattle.judge.specs.declared.state.Judge.{Judge}
 use Rattle.judge.specs.declared.state.Tested.{Tested}
-use Rattle.judge.specs.declared.state.Refusal.the-variants.{Nothing, Opening}
-use Rattle.judge.specs.States.{suits, suitsBy, reportsOf}
+use Rattle.judge.specs.declared.state.Refusal.the-variants.{Nothing, Opening as Unopened}
+use Rattle.judge.specs.States.{suits}
 use Rattle.judge.specs.Openings.{Fits, freshOf, Opens}
-use Rattle.judge.specs.Words.{Indexed}
+use Rattle.intake.specs.Refusals.{suitsBy}
+use Rattle.intake.specs.Words.{Indexed}
 use Rattle.judge.specs.Runs.{After, stateOf}
-use Rattle.judge.proofs.Suiting.{Suiting, suiting, suits-by}
+use Rattle.intake.proofs.Suiting.{Suiting, suiting, suits-by}
 
 ids-clear : {cap : ℕ} {work : List ℕ} → Zeros work → IdsIndexed cap [] work
 ids-clear z = record { links = column-clear blockLink z; lasts = column-clear lastAfter z }
@@ -45,20 +48,20 @@ indexed-clear z = record {
   meta = names.indexed-clear z;
 }
 
-none-reported : (tenant : ℕ) → replicate 8 passed ≡ reportsOf tenant []
+none-reported : (o : Opening) → replicate checkCount passed ≡ reportsOf o []
 unfolding reportsOf reportOf
-none-reported tenant = refl
+none-reported o = refl
 
-pub fresh-after : (tenant c : ℕ) (log work : List ℕ) → Fits (length log) (length work) c
-    → After Indexed [] (stateOf (freshOf c tenant) log (replicate (length work) 0))
+pub fresh-after : (o : Opening) (c : ℕ) (log work : List ℕ) → Fits (length log) (length work) c
+    → After Indexed [] (stateOf (freshOf c o) log (replicate (length work) 0))
 unfolding suits
-fresh-after tenant c log work f =
+fresh-after o c log work f =
     let l : length {A = ℕ} (replicate (length work) 0) ≡ 32 * c = length-replicate (length work) 0 ∙ f .work in
     record {
       fits = suits-by (record { small = f .most; within = omega arith; log = f .log; work = l });
       count = refl;
       taken = hist-none log;
-      reports = none-reported tenant;
+      reports = none-reported o;
       words = indexed-clear (zeros (length work) refl);
     }
 
@@ -70,7 +73,7 @@ both true false e = (refl, refl)
 both true true e = never refl e
 both false d e = never refl e
 
-module _ (tenant logs : ℕ) (work : List ℕ) {j : Judge} {t : Tested} (asked : j ≡ freshOf (logs / 368) tenant)
+module _ (o : Opening) (logs : ℕ) (work : List ℕ) {j : Judge} {t : Tested} (asked : j ≡ freshOf (logs / 368) o)
     (u : (t .holds ≡ suitsBy (j .capacity) (j .count) logs (length work)) × (t .judge ≡ j)) where
   tested : t .holds ≡ suitsBy (logs / 368) 0 logs (length work)
   tested = u .0 ∙ ap (λ (i : Judge). suitsBy (i .capacity) (i .count) logs (length work)) asked
@@ -88,12 +91,12 @@ module _ (tenant logs : ℕ) (work : List ℕ) {j : Judge} {t : Tested} (asked :
       let z : eqb (logs / 368) 0 ≡ false = ne-eqb (logs / 368) 0 (λ q. omega arith) in
       λ i. not (h i) || z i
 
-  pub asked-refused : {k : Judge} → (not (t .holds) || eqb (logs / 368) 0) ≡ true → k ≡ freshOf 0 tenant
-      → Opens tenant logs work (record { refusal = Opening; judge = k }) work
+  pub asked-refused : {k : Judge} → (not (t .holds) || eqb (logs / 368) 0) ≡ true → k ≡ freshOf 0 o
+      → Opens o logs work (record { refusal = Unopened; judge = k }) work
   asked-refused e g = record { refused = λ none. (refl, g, refl); opened = λ c f. never e (holds-then c f) }
 
   pub asked-opened : {work′ : List ℕ} → (not (t .holds) || eqb (logs / 368) 0) ≡ false → work′ ≡ replicate (length work) 0
-      → Opens tenant logs work (record { refusal = Nothing; judge = t .judge }) work′
+      → Opens o logs work (record { refusal = Nothing; judge = t .judge }) work′
   asked-opened e w =
       let b = both (t .holds) (eqb (logs / 368) 0) e in
       let s : Suiting (logs / 368) 0 logs (length work) = suiting (sym tested ∙ b .0) in
@@ -101,15 +104,15 @@ module _ (tenant logs : ℕ) (work : List ℕ) {j : Judge} {t : Tested} (asked :
       let fits : Fits logs (length work) (logs / 368) = record { some = omega arith; most = s .small; log = s .log; work = s .work } in
       record {
         refused = λ none. absurd (none (logs / 368) fits);
-        opened = λ c f. (refl, u .1 ∙ asked ∙ ap (λ (d : ℕ). freshOf d tenant) (sym (same c f)), w);
+        opened = λ c f. (refl, u .1 ∙ asked ∙ ap (λ (d : ℕ). freshOf d o) (sym (same c f)), w);
       }
 
 -- ---- what is left
 
 -- an opening without refusal gives the state after no records
-pub opened-after : (tenant c : ℕ) (log work : List ℕ) (r : Opened) (work′ : List ℕ) → Fits (length log) (length work) c
-    → Opens tenant (length log) work r work′ → After Indexed [] (stateOf (r .judge) log work′)
-opened-after tenant c log work r work′ f o =
-    let q = o .opened c f in
-    let e : stateOf (r .judge) log work′ ≡ stateOf (freshOf c tenant) log (replicate (length work) 0) = λ i. stateOf (q .1 i) log (q .2 i) in
-    subst (After Indexed []) (sym e) (fresh-after tenant c log work f)
+pub opened-after : (o : Opening) (c : ℕ) (log work : List ℕ) (r : Opened) (work′ : List ℕ) → Fits (length log) (length work) c
+    → Opens o (length log) work r work′ → After Indexed [] (stateOf (r .judge) log work′)
+opened-after o c log work r work′ f p =
+    let q = p .opened c f in
+    let e : stateOf (r .judge) log work′ ≡ stateOf (freshOf c o) log (replicate (length work) 0) = λ i. stateOf (q .1 i) log (q .2 i) in
+    subst (After Indexed []) (sym e) (fresh-after o c log work f)

@@ -1,102 +1,123 @@
--- What a push that is not refused leaves: judged, noted and appended, the state after the records taken is the state after one
--- more. Assumes nothing.
+-- What a push that is not refused leaves: where the state was the one after the records taken, the state after one more.
+-- Assumes nothing.
 use mathlib.Core.Path.{_≡_, refl, sym, ap, _∙_, subst}
-use mathlib.Core.Bool.{Bool, true, false, cond}
-use mathlib.Core.List.{List, _∷_}
-use Prim.Native.Nat.{ℕ, suc, _+_, _*_, _≤_, _<_}
+use mathlib.Core.Bool.{true, false}
+use mathlib.Core.List.{List, [], _∷_, map}
+use Prim.Native.Nat.{ℕ, suc, _+_, _≤_}
 use native.Mathlib.Omega.{arith}
 use lib.ListN.{length}
 use lib.Dec.{eqb}
-use borrow.Author.Tests.{eqb-true, eqb-false}
-use Rattle.record.specs.Form.{refusalOf}
+use borrow.Author.Tests.{ne-eqb}
 use Rattle.record.specs.Records.{decode}
-use Rattle.record.proofs.Keys.{never}
-use Rattle.record.proofs.Sound.{wrong-size}
-use native.Mathlib.Decide.{ℕ-discrete}
+use Rattle.rules.specs.declared.Opening.{Opening}
+use Rattle.rules.specs.declared.Report.{Report}
+use Rattle.rules.specs.declared.Verdict.{Verdict}
+use Rattle.rules.specs.declared.Verdict.the-variants.{Pass, Faulted}
 use Rattle.rules.specs.History.{History}
-use Rattle.history.specs.Bounds.{Bounds}
-use Rattle.history.specs.Logs.{hist, Appended}
+use Rattle.rules.specs.Checks.{Check, checks, checkCount, caseAt, reportBy, reportsOf, Every}
+use Rattle.rules.proofs.Booleans.{never}
+use Rattle.rules.proofs.CaseKinds.{CaseKinds, case-kinds, VerdictWithin, report-kinds}
+use Rattle.rows.specs.Rows.{rowsOf, reportsIn}
+use Rattle.rows.proofs.ReadBack.{ReadsBack, AllRead, rows-read, rows-back}
+use Rattle.history.specs.Logs.{hist}
 use Rattle.history.proofs.Logs.{appended-hist}
+use Rattle.intake.specs.Refusals.{pushRefusalBy}
+use Rattle.intake.specs.Words.{Indexed}
+use Rattle.intake.specs.Takes.{TakenIn, TakesIn}
+use Rattle.intake.proofs.Suiting.{suits-by}
+use Rattle.intake.proofs.Decisions.{Room, room-of}
 use Rattle.judge.specs.declared.state.Judge.{Judge}
-use Rattle.judge.specs.States.{State, suitsBy, orFull, suits, pushRefusal, takes, reportsOf}
-use Rattle.judge.specs.Words.{Indexed, Noted}
-use Rattle.judge.specs.Steps.{Judged}
+use Rattle.judge.specs.States.{State, suits, pushRefusal, takes}
 use Rattle.judge.specs.Runs.{After, Taken, Pushed, stateOf}
-use Rattle.judge.proofs.Suiting.{Suiting, suiting, suits-by, bounded}
+use Rattle.judge.specs.Traces.{judgeBy}
 
--- ---- no refusal
+-- ---- the reports of a history as rows
 
--- the numbers and lengths where nothing is refused
-pub record Ready (j : Judge) (log work bytes : List ℕ) : Type 0 where
-  pub suits : Suiting (j .capacity) (j .count) (length log) (length work)
-  pub room : j .count < j .capacity
-  pub size : length bytes ≡ 368
+pub reports-many : (o : Opening) (h : History) → length (reportsOf o h) ≡ checkCount
+unfolding reportsOf
+reports-many o h = refl
 
-suits-zero : (b : Bool) (x : ℕ) → cond b x 5 ≡ 0 → (b ≡ true) × (x ≡ 0)
-suits-zero true x e = (refl, e)
-suits-zero false x e = absurd (omega arith)
+reads-back : (most : ℕ) (v : Verdict) → VerdictWithin most v → ReadsBack v
+reads-back most Pass w = tt
+reads-back most (Faulted kind) w = w .0
 
-full-zero : (form : ℕ) (full b : Bool) → eqb form 0 ≡ b → cond b (cond full 6 0) form ≡ 0 → (form ≡ 0) × (full ≡ false)
-full-zero form true true e z = absurd (omega arith)
-full-zero form false true e z = (eqb-true form 0 e, refl)
-full-zero form full false e z = absurd (eqb-false form 0 e z)
+all-read : (o : Opening) (h : History) (cs : List Check) → Every CaseKinds cs → AllRead (map (reportBy o h) cs)
+all-read o h [] p = tt
+all-read o h (c ∷ cs) p = (reads-back (c .kinds) (reportBy o h c .verdict) (report-kinds (caseAt o c) (p .0 o) h), all-read o h cs (p .1))
 
-sized : (bytes : List ℕ) → refusalOf bytes ≡ 0 → length bytes ≡ 368
-sized bytes z = elim (ℕ-discrete (length bytes) 368) [
-  | yes e ↦ e
-  | no n ↦ absurd (let w = wrong-size bytes n in omega arith)
-]
+-- they read back from their words
+pub reports-back : (o : Opening) (h : History) → reportsIn (rowsOf (reportsOf o h)) 0 ≡ reportsOf o h
+unfolding reportsOf
+reports-back o h = rows-back (map (reportBy o h) checks) refl (all-read o h checks case-kinds)
 
-pub ready : (j : Judge) (log work bytes : List ℕ) → pushRefusal (stateOf j log work) bytes ≡ 0 → Ready j log work bytes
-unfolding pushRefusal
-ready j log work bytes z =
-    let cap = j .capacity in
-    let s = suits-zero (suitsBy cap (j .count) (length log) (length work)) (orFull (refusalOf bytes) cap (j .count)) z in
-    let f = full-zero (refusalOf bytes) (eqb (j .count) cap) (eqb (refusalOf bytes) 0) refl (s .1) in
-    let u = suiting (s .0) in
-    let l : j .count ≤ cap = u .within in
-    let n : j .count ≡ cap → ⊥ = eqb-false _ _ (f .1) in
-    record { suits = u; room = omega arith; size = sized bytes (f .0) }
+-- ---- a record that is taken
 
-pub bounds : {j : Judge} {log work bytes : List ℕ} → Ready j log work bytes → Bounds log work (j .count) (j .capacity)
-bounds {j} r = let d = r .room in bounded (r .suits) (λ z. omega arith)
+-- rows that are those of the judge's reports, wherever these are a history's
+abbrev pub RowsOf : Judge → List ℕ → Type 0
+RowsOf j rows = (h : History) → j .reports ≡ reportsOf (j .opening) h → rows ≡ rowsOf (reportsOf (j .opening) h)
 
--- ---- what is left
+module _ (j : Judge) (log work rows bytes : List ℕ) {log′ work′ rows′ : List ℕ} (are : RowsOf j rows)
+    (y : Room (j .capacity) (j .count) log work bytes) (k : TakenIn (j .opening) (j .capacity) (j .count) log work rows bytes log′ work′ rows′) where
+  abbrev pub nextOf : Judge
+  nextOf = judgeBy (j .opening) (j .capacity) (j .count + 1) rows′
 
-module _ {j r : Judge} {log work bytes log′ work′ : List ℕ} (y : Ready j log work bytes) (g : Judged j log work bytes r)
-    (w : Noted (j .capacity) (hist log (j .count)) (decode bytes) work work′) (p : Appended log log′ (j .count) bytes) where
-  fits-more : suits (stateOf r log′ work′) ≡ true
+  fits-more : suits (stateOf nextOf log′ work′) ≡ true
   unfolding suits
   fits-more =
       let u = y .suits in
       let a = u .small in let b = u .log in let c = u .work in
-      let d = y .room in let e = g .capacity in let n = g .count in let l = p .len in let m = w .len in
-      suits-by {capacity = r .capacity} {count = r .count} {logs = length log′} {words = length work′}
+      let d = y .room in let l = k .appended .len in let m = k .noted .len in
+      suits-by {capacity = j .capacity} {count = j .count + 1} {logs = length log′} {words = length work′}
       (record { small = omega arith; within = omega arith; log = omega arith; work = omega arith })
 
-  after-more : (h : History) → After Indexed h (stateOf j log work) → After Indexed (decode bytes ∷ h) (stateOf r log′ work′)
+  after-more : (h : History) → After Indexed h (stateOf j log work) → After Indexed (decode bytes ∷ h) (stateOf nextOf log′ work′)
   after-more h a =
-      let k : j .count ≡ length h = a .count in
-      let t : hist log (j .count) ≡ h = ap (hist log) k ∙ a .taken in
-      let m : suc (length h) ≡ j .count + 1 = omega arith in
+      let o = j .opening in
       let x = decode bytes in
+      let n : j .count ≡ length h = a .count in
+      let t : hist log (j .count) ≡ h = ap (hist log) n ∙ a .taken in
+      let m : suc (length h) ≡ j .count + 1 = omega arith in
       let i : Indexed (j .capacity) (hist log (j .count)) work = subst (λ (z : History). Indexed (j .capacity) z work) (sym t) (a .words) in
-      let n : r .count ≡ j .count + 1 = g .count in
+      let r : rows′ ≡ rowsOf (reportsOf o (x ∷ h)) =
+      k .judged i (are (hist log (j .count)) (a .reports ∙ ap (reportsOf o) (sym t))) ∙ ap (λ (z : History). rowsOf (reportsOf o (x ∷ z))) t in
       record {
         fits = fits-more;
-        count = n ∙ sym m;
-        taken = ap (hist log′) m ∙ appended-hist p ∙ ap (λ (z : History). x ∷ z) t;
-        reports = g .reports i (a .reports ∙ ap (reportsOf (j .tenant)) (sym t)) ∙ ap (λ (z : History). reportsOf (j .tenant) (x ∷ z)) t ∙ ap (λ (u : ℕ). reportsOf u (x ∷ h)) (sym (g .tenant));
-        words = subst (λ (c : ℕ). Indexed c (x ∷ h) work′) (sym (g .capacity)) (subst (λ (z : History). Indexed (j .capacity) (x ∷ z) work′) t (w .indexed i));
+        count = sym m;
+        taken = ap (hist log′) m ∙ appended-hist (k .appended) ∙ ap (λ (z : History). x ∷ z) t;
+        reports = ap (λ (w : List ℕ). reportsIn w 0) r ∙ reports-back o (x ∷ h);
+        words = subst (λ (z : History). Indexed (j .capacity) (x ∷ z) work′) t (k .noted .indexed i);
       }
 
-  took : Taken Indexed (stateOf j log work) bytes (stateOf r log′ work′)
-  took = record { capacity = g .capacity; tenant = g .tenant; count = g .count; log = p; work = w .len; after = after-more }
+  took : Taken Indexed (stateOf j log work) bytes (stateOf nextOf log′ work′)
+  took = record { capacity = refl; opening = refl; count = refl; log = k .appended; work = k .noted .len; after = after-more }
+
+-- ---- a push
+
+module _ (j : Judge) (log work rows bytes : List ℕ) {r : ℕ} {log′ work′ rows′ : List ℕ} (are : RowsOf j rows)
+    (t : TakesIn (j .opening) (j .capacity) (j .count) log work rows bytes r log′ work′ rows′) where
+  number-is : r ≡ pushRefusal (stateOf j log work) bytes
+  unfolding pushRefusal
+  number-is = t .refusal
+
+  has-room : r ≡ 0 → Room (j .capacity) (j .count) log work bytes
+  has-room z = room-of (sym (t .refusal) ∙ z)
 
   -- a push that takes its record
-  pub pushed-taken : takes (stateOf j log work) bytes ≡ true → Pushed Indexed (stateOf j log work) bytes (stateOf r log′ work′)
-  pushed-taken e = record { refused = λ q. never e q; taken = λ q. took }
+  pub push-taken : r ≡ 0 → Pushed Indexed (stateOf j log work) bytes (stateOf (judgeBy (j .opening) (j .capacity) (j .count + 1) rows′) log′ work′)
+  push-taken z = record {
+    refused = λ q. never (ap (λ (n : ℕ). eqb n 0) (sym number-is ∙ z)) q;
+    taken = λ q. took j log work rows bytes are (has-room z) (t .taken z);
+  }
 
--- a refused push
-pub pushed-refused : {s : State} {bytes : List ℕ} → takes s bytes ≡ false → Pushed Indexed s bytes s
-pushed-refused e = record { refused = λ q. refl; taken = λ q. never q e }
+  -- a refused one: everything is as it stood
+  pub push-refused : (r ≡ 0 → ⊥) → Pushed Indexed (stateOf j log work) bytes (stateOf j log′ work′)
+  push-refused n =
+      let e = t .refused n in
+      record {
+        refused = λ q. λ i. stateOf j (e .0 i) (e .1 i);
+        taken = λ q. never q (ap (λ (m : ℕ). eqb m 0) (sym number-is) ∙ ne-eqb r 0 n);
+      }
+
+-- the rows of a judge that is read from them
+pub rows-own : (o : Opening) (cap n : ℕ) (rows : List ℕ) → length rows ≡ 56 → RowsOf (judgeBy o cap n rows) rows
+rows-own o cap n rows s h e = rows-read rows s ∙ ap rowsOf e

@@ -3,23 +3,29 @@ use mathlib.Core.Path.{_≡_, refl, sym, ap, _∙_, subst}
 use mathlib.Core.Bool.{false}
 use mathlib.Core.List.{List, [], _∷_}
 use mathlib.Core.Logic.{⊎-elim}
-use Prim.Native.Nat.{ℕ, _+_, _-_, _≤_, _<_}
+use Prim.Native.Nat.{ℕ, _+_, _*_, _-_, _≤_, _<_}
 use native.Mathlib.Omega.{arith}
 use native.Mathlib.Nat.{eq-or-lt-of-le}
-use lib.ListN.{length, take, drop, length-drop, drop-of-length-le}
+use lib.ListN.{length, getD, take, drop, replicate, length-drop, drop-of-length-le, getD-replicate}
 use lib.Seq.{take-all, drop-drop}
 use lib.Dec.{eqb}
+use borrow.Author.Tests.{ne-eqb}
 use Rattle.record.proofs.Keys.{never}
+use Rattle.rules.specs.declared.Opening.{Opening}
+use Rattle.rows.specs.Rows.{reportIn, reportsFrom, KindsFit}
 use Rattle.judge.specs.declared.opening.Opened.{Opened}
-use Rattle.judge.specs.declared.push.Pushed as Answer
 use Rattle.judge.specs.declared.trace.Traced.{Traced}
 use Rattle.judge.specs.declared.state.Judge.{Judge}
 use Rattle.judge.specs.declared.state.Refusal.the-variants.{Nothing}
 use Rattle.judge.specs.States.{State, refusalNumber, pushRefusal, takes}
-use Rattle.judge.specs.Words.{Indexed}
-use Rattle.judge.specs.Runs.{Pushed, PushedBy, Run, none, more, stateOf}
-use Rattle.judge.specs.Openings.{Opens}
-use Rattle.judge.specs.Traces.{Feeds, ends, refused, taken, TracedBy}
+use Rattle.intake.specs.Refusals.{pushRefusalBy}
+use Rattle.intake.specs.Words.{Indexed}
+use Rattle.intake.specs.Takes.{TakesIn}
+use Rattle.judge.specs.Calls.{Call, push}
+use Rattle.judge.specs.Runs.{Pushed, Run, none, more, stateOf}
+use Rattle.judge.specs.Openings.{freshOf, Opens}
+use Rattle.judge.specs.Traces.{Feeds, ends, refused, taken, judgeBy, TracedBy}
+use Rattle.judge.proofs.Pushes.{push-taken, rows-own}
 
 -- the record at `at`, and what is after it
 module _ (t : List ℕ) (at e : ℕ) (h : (at < e) × (e ≤ length t) × (e ≤ at + 368) × (e < length t → e ≡ at + 368)) where
@@ -35,32 +41,45 @@ module _ (t : List ℕ) (at e : ℕ) (h : (at < e) × (e ≤ length t) × (e ≤
       (λ q. sym (drop-drop 368 at t ∙ ap (λ (m : ℕ). drop m t) (sym (h .3 q))))
       (eq-or-lt-of-le (h .1))
 
--- a push of the trace's next record
-module _ {j : Judge} {log work log′ work′ bytes : List ℕ} {r : Answer.Pushed} (n : ℕ) (trace : List ℕ) (some : 0 < length trace) (part : bytes ≡ take 368 trace)
-    (p : PushedBy j log work bytes r log′ work′) where
-  number-is : refusalNumber (r .refusal) ≡ pushRefusal (stateOf j log work) (take 368 trace)
-  number-is = p .refusal ∙ ap (pushRefusal (stateOf j log work)) part
+-- the trace's next record, taken or refused by numbers and rows
+module _ (o : Opening) (cap n : ℕ) (log work rows : List ℕ) {log′ work′ rows′ bytes : List ℕ} {r : ℕ} (trace : List ℕ) (some : 0 < length trace)
+    (part : bytes ≡ take 368 trace) (size : length rows ≡ 56) (p : TakesIn o cap n log work rows bytes r log′ work′ rows′) where
+  abbrev here : State
+  here = stateOf (judgeBy o cap n rows) log work
 
-  leaves-is : Pushed Indexed (stateOf j log work) (take 368 trace) (stateOf (r .judge) log′ work′)
-  leaves-is = subst (λ (b : List ℕ). Pushed Indexed (stateOf j log work) b (stateOf (r .judge) log′ work′)) part (p .leaves)
+  number-is : r ≡ pushRefusal here (take 368 trace)
+  unfolding pushRefusal
+  number-is = p .refusal ∙ ap (pushRefusalBy cap n (length log) (length work)) part
 
   -- taken, and the rest follows
-  pub feeds-on : {f a : ℕ} {t : State} → r .refusal ≡ Nothing → Feeds (stateOf (r .judge) log′ work′) (drop 368 trace) (n + 1) f a t
-      → Feeds (stateOf j log work) trace n f a t
-  feeds-on e w = taken some (ap (λ (m : ℕ). eqb m 0) (sym number-is ∙ ap refusalNumber e)) leaves-is w
+  pub feeds-on : {f a : ℕ} {t : State} → r ≡ 0 → Feeds (stateOf (judgeBy o cap (n + 1) rows′) log′ work′) (drop 368 trace) (n + 1) f a t
+      → Feeds here trace n f a t
+  feeds-on z w =
+      let u = push-taken (judgeBy o cap n rows) log work rows bytes (rows-own o cap n rows size) p z in
+      taken some (ap (λ (m : ℕ). eqb m 0) (sym number-is ∙ z))
+      (subst (λ (b : List ℕ). Pushed Indexed here b (stateOf (judgeBy o cap (n + 1) rows′) log′ work′)) part u) w
 
   -- refused: everything is as it stood
-  pub feeds-off : eqb (refusalNumber (r .refusal)) 0 ≡ false
-      → Feeds (stateOf j log work) trace n (refusalNumber (r .refusal)) (n + 1) (stateOf (r .judge) log′ work′)
-  feeds-off e =
-      let q : takes (stateOf j log work) (take 368 trace) ≡ false = ap (λ (m : ℕ). eqb m 0) (sym number-is) ∙ e in
-      subst (Feeds (stateOf j log work) trace n (refusalNumber (r .refusal)) (n + 1)) (sym (leaves-is .refused q)) (refused some q number-is)
+  pub feeds-off : (r ≡ 0 → ⊥) → Feeds here trace n r (n + 1) (stateOf (judgeBy o cap n rows′) log′ work′)
+  feeds-off z =
+      let e = p .refused z in
+      let q : takes here (take 368 trace) ≡ false = ap (λ (m : ℕ). eqb m 0) (sym number-is) ∙ ne-eqb r 0 z in
+      let s : here ≡ stateOf (judgeBy o cap n rows′) log′ work′ = λ i. stateOf (judgeBy o cap n (sym (e .2) i)) (sym (e .0) i) (sym (e .1) i) in
+      subst (Feeds here trace n r (n + 1)) s (refused some q number-is)
+
+-- a judge that has taken nothing has rows of zeros
+pub fresh-rows : (c : ℕ) (o : Opening) → judgeBy o c 0 (replicate 56 0) ≡ freshOf c o
+unfolding reportsFrom reportIn
+fresh-rows c o = refl
+
+pub zeros-fit : KindsFit (replicate 56 0) 0
+zeros-fit = record { kind = λ k l. let e = getD-replicate {A = ℕ} 56 (0 + 7 * k) 0 0 (omega arith) in omega arith }
 
 -- an opening that is not refused, and what the trace comes to from there; or one that is
-module _ (tenant : ℕ) (log work trace : List ℕ) (o : Opened) {work₁ : List ℕ} (p : Opens tenant (length log) work o work₁) where
+module _ (n : Opening) (log work trace : List ℕ) (o : Opened) {work₁ : List ℕ} (p : Opens n (length log) work o work₁) where
   pub traced-on : {log′ work′ : List ℕ} (r : Traced) → o .refusal ≡ Nothing
       → Feeds (stateOf (o .judge) log work₁) trace 0 (refusalNumber (r .refusal)) (r .at) (stateOf (r .judge) log′ work′)
-      → TracedBy tenant log work trace r log′ work′
+      → TracedBy n log work trace r log′ work′
   traced-on {log′} {work′} r e w = record {
     refused = λ none. let x = p .refused none .0 in let y = ap refusalNumber e in absurd (omega arith);
     opened = λ c f.
@@ -69,7 +88,7 @@ module _ (tenant : ℕ) (log work trace : List ℕ) (o : Opened) {work₁ : List
   }
 
   pub traced-off : eqb (refusalNumber (o .refusal)) 0 ≡ false
-      → TracedBy tenant log work trace (record { refusal = o .refusal; at = 0; judge = o .judge }) log work₁
+      → TracedBy n log work trace (record { refusal = o .refusal; at = 0; judge = o .judge }) log work₁
   traced-off e = record {
     refused = λ none. let q = p .refused none in (q .0, refl, q .1, refl, q .2);
     opened = λ c f. never (ap (λ (m : ℕ). eqb m 0) (p .opened c f .0)) e;
@@ -77,12 +96,12 @@ module _ (tenant : ℕ) (log work trace : List ℕ) (o : Opened) {work₁ : List
 
 -- what a trace comes to is a run of the pushes that were taken: so the third demand speaks of it
 pub record Ran (s t : State) : Type 0 where
-  pub pushes : List (List ℕ)
-  pub run : Run Indexed s pushes t
+  pub calls : List Call
+  pub run : Run Indexed s calls t
 
 pub feeds-run : {s t : State} {trace : List ℕ} {n f a : ℕ} → Feeds s trace n f a t → Ran s t
-feeds-run (ends e) = record { pushes = []; run = none }
-feeds-run (refused l q e) = record { pushes = []; run = none }
+feeds-run (ends e) = record { calls = []; run = none }
+feeds-run (refused l q e) = record { calls = []; run = none }
 feeds-run {trace = trace} (taken l q p w) =
     let r = feeds-run w in
-    record { pushes = take 368 trace ∷ r .pushes; run = more p (r .run) }
+    record { calls = push (take 368 trace) ∷ r .calls; run = more p (r .run) }

@@ -7,19 +7,20 @@ use Prim.Native.Nat.{ℕ, _*_}
 use lib.ListN.{length}
 use Rattle.rules.specs.History.{History}
 use Rattle.judge.specs.States.{State, suits}
-use Rattle.judge.specs.Words.{Indexed}
-use Rattle.judge.specs.WorkArea.{workOf}
-use Rattle.judge.specs.Runs.{After, Run, takenOf}
+use Rattle.intake.specs.Words.{Indexed}
+use Rattle.intake.specs.WorkArea.{workOf}
+use Rattle.judge.specs.Calls.{Call, takenOf}
+use Rattle.judge.specs.Runs.{After, Run}
 use Rattle.judge.proofs.Suiting.{state-suiting}
-use Rattle.judge.proofs.WorkArea.{words-are}
+use Rattle.intake.proofs.WorkArea.{words-are}
 use Rattle.judge.proofs.Demand3.{ran}
 
 -- in a state after the records of h every word is what the function says
 pub after-words : (h : History) (s : State) → After Indexed h s → s .work ≡ workOf (s .judge .capacity) h
 after-words h s a = words-are (s .judge .capacity) h (s .work) (state-suiting s (a .fits) .work) (a .words)
 
--- and so after every list of pushes, from a state after no records
-pub run-words : (o t : State) (ps : List (List ℕ)) → After Indexed [] o → Run Indexed o ps t
+-- and so after every list of calls, from a state after no records
+pub run-words : (o t : State) (ps : List Call) → After Indexed [] o → Run Indexed o ps t
     → t .work ≡ workOf (o .judge .capacity) (takenOf (o .judge .capacity) ps [])
 run-words o t ps a r =
     let w = ran Indexed [] a r in

@@ -1,9 +1,10 @@
 -- Words stored one after the other, and the rows of reports. Assumes nothing.
-use mathlib.Core.Path.{_≡_, refl, sym, ap, _∙_}
+use mathlib.Core.Path.{_≡_, refl, sym, ap, _∙_, subst}
 use mathlib.Core.List.{List, [], _∷_, _++_, append-assoc, append-nil}
 use Prim.Native.Nat.{ℕ, suc, _+_, _*_, _≤_, _<_}
 use native.Mathlib.Numerals.{add-one}
 use native.Mathlib.Omega.{arith}
+use native.Mathlib.Decide.{ℕ-discrete}
 use lib.ListN.{length, getD, take, drop, set, length-append, drop-of-length-le}
 use lib.Seq.{sets, sets-eq, take-suc, take-all, length-take-le}
 use Rattle.rules.specs.declared.Report.{Report}
@@ -81,3 +82,11 @@ rows-more l m i rs k h e =
 -- all the rows
 pub rows-all : (l m : List ℕ) (i : ℕ) (rs : List Report) (k : ℕ) → length rs ≤ k → m ≡ sets l i (rowsOf (take k rs)) → m ≡ sets l i (rowsOf rs)
 rows-all l m i rs k h e = e ∙ ap (λ (t : List Report). sets l i (rowsOf t)) (take-all k rs h)
+
+-- one kind more is a byte
+pub kinds-more : (rs : List Report) (k : ℕ) → ((j : ℕ) → j < k → kindWord (getD rs j passed .verdict) ≤ 255)
+    → kindWord (getD rs k passed .verdict) ≤ 255 → (j : ℕ) → j < k + 1 → kindWord (getD rs j passed .verdict) ≤ 255
+kinds-more rs k f g j l = elim (ℕ-discrete j k) [
+  | yes e ↦ subst (λ (n : ℕ). kindWord (getD rs n passed .verdict) ≤ 255) (sym e) g
+  | no n ↦ f j (omega arith)
+]

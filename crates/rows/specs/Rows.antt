@@ -73,6 +73,12 @@ kindsFitIn (suc n) words at = kindsFitIn n words at && leb (getD words (at + 7 *
 abbrev pub kindsFit : List ℕ → ℕ → Bool
 kindsFit words at = kindsFitIn checkCount words at
 
+-- the words of reports written from a place on
+pub record WrittenIn (out : List ℕ) (at : ℕ) (reports : List Report) (out′ : List ℕ) : Type 0 where
+  pub many : length reports ≡ checkCount
+  pub kinds : (k : ℕ) → k < checkCount → kindWord (getD reports k passed .verdict) ≤ 255
+  pub is : out′ ≡ sets out at (rowsOf reports)
+
 -- a row after a check said c of the record at a position
 abbrev pub enteredIn : List ℕ → ℕ → Case → ℕ → List ℕ
 enteredIn rows k Clear position = rows

@@ -11,7 +11,7 @@ ghost use lib.ListN.{length, getD};
 ghost use lib.Seq.{sets};
 ghost use Rattle.rules.specs.Reports.{passed};
 ghost use Rattle.rules.specs.Checks.{checkCount};
-ghost use Rattle.rows.specs.Rows.{rowsSize, kindWord, reportWords, rowsOf, verdictIn, reportIn, reportsIn, KindsFit, kindsFit, EntersIn};
+ghost use Rattle.rows.specs.Rows.{rowsSize, kindWord, reportWords, rowsOf, verdictIn, reportIn, reportsIn, KindsFit, kindsFit, WrittenIn, EntersIn};
 
 // The words of a report: kind, position, five evidence numbers.
 pub const REPORT_WORDS: usize = 7;
@@ -95,9 +95,9 @@ pub fn read_rows(words: &[u64], at: usize) -> [Report; CHECKS]
     reports
 }
 
-// A verdict's word.
+// A verdict's word, which is a byte.
 fn kind_word(verdict: Verdict) -> u64
-    ensures { λ r. ⌜ r ≡ kindWord verdict ⌝ }
+    ensures { λ r. ⌜ (r ≡ kindWord verdict) × (kindWord verdict ≤ 255) ⌝ }
 {
     match verdict {
         Verdict::Pass => 0,
@@ -108,7 +108,7 @@ fn kind_word(verdict: Verdict) -> u64
 // Writes a report's seven words from a place on.
 pub fn write_report(out: &mut [u64], at: usize, report: Report)
     requires { ⌜ at + 7 ≤ length (now out) ⌝ }
-    ensures { λ _. ⌜ now (out .exit) ≡ sets (now (out .entry)) at (reportWords report) ⌝ }
+    ensures { λ _. ⌜ (now (out .exit) ≡ sets (now (out .entry)) at (reportWords report)) × (kindWord (report .verdict) ≤ 255) ⌝ }
 {
     let verdict = report.verdict;
     out[at] = kind_word(verdict);
@@ -120,10 +120,10 @@ pub fn write_report(out: &mut [u64], at: usize, report: Report)
     out[at + 6] = report.evidence.e4;
 }
 
-// Writes the words of all reports from a place on; that they are as many as the checks is said for the callers.
+// Writes the words of all reports from a place on; that they are as many as the checks, with bytes as kinds, is said for the callers.
 pub fn write_rows(out: &mut [u64], at: usize, reports: [Report; CHECKS])
     requires { ⌜ at + rowsSize ≤ length (now out) ⌝ }
-    ensures { λ _. ⌜ (length reports ≡ checkCount) × (now (out .exit) ≡ sets (now (out .entry)) at (rowsOf reports)) ⌝ }
+    ensures { λ _. ⌜ WrittenIn (now (out .entry)) at reports (now (out .exit)) ⌝ }
 {
     let mut k = 0usize;
     while k < CHECKS {

@@ -32,7 +32,7 @@ returns-2 c =
     let p = c .before .before .before .before .before .before .before .before .pre in
     let fault = c .before .before .before .before .before .c .given in
     let byte : fault .0 .0 < 256 = c .before .before .before .before .known-told .given .0 .1 in
-    enter-fault (a .rows .now) (a .k) (a .position) (p .0) (p .1) (omega arith) (fault .1) (c .before .before .write-report .ensures)
+    enter-fault (a .rows .now) (a .k) (a .position) (p .0) (p .1) (omega arith) (fault .1) (c .before .before .write-report .ensures .0)
 
 pub enter-spec : {M : Type 1} → statement M
 enter-spec =

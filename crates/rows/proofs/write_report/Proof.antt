@@ -73,7 +73,7 @@ same-length : tie.Need-same-length
 same-length c = search needs
 
 returns : tie.Need-returns
-returns c = let a = c .before .before .args in report-written (a .out .now) (a .at) (a .report) (c .kind-word .ensures)
+returns c = let a = c .before .before .args in (report-written (a .out .now) (a .at) (a .report) (c .kind-word .ensures .0), c .kind-word .ensures .1)
 
 pub write-report-spec : {M : Type 1} → statement M
 write-report-spec =

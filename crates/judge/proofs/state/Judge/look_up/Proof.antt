@@ -4,7 +4,7 @@ use Rattle.judge.specs.declared.lookup.Looked.{Looked}
 use Rattle.judge.specs.declared.state.Judge.{Judge}
 use Rattle.judge.specs.declared.state.Refusal.the-variants.{Nothing, Judge as Unfit, Output}
 use Rattle.judge.specs.Lookups.{LookedBy}
-use Rattle.judge.proofs.Suiting.{suiting, bounded}
+use Rattle.intake.proofs.Suiting.{suiting, bounded}
 use Rattle.judge.proofs.Lookups.{lends-by, looked-as, looked-refused, looked-none, looked-short, looked-given}
 use borrow.Author.Tests.{not-true, not-false}
 use borrow.Author.Needs.{needs}
