@@ -94,7 +94,7 @@ same-length c = search needs
 returns-6 : tie.Need-returns-6
 returns-6 c =
     let h = c .before .before .holders-of in
-    listed-as (c .before .before .before .before .before .question4 .given .1) (h .ensures .1) (λ i. h .ensures .0 (i .ids))
+    listed-as (c .before .before .before .before .before .question4 .given .1) refl (h .ensures .1) (λ i. h .ensures .0 (i .ids))
 
 same-length-2 : tie.Need-same-length-2
 same-length-2 c = search needs
@@ -102,7 +102,7 @@ same-length-2 c = search needs
 returns-7 : tie.Need-returns-7
 returns-7 c =
     let b = c .before .before .blocks2 in
-    listed-as (c .before .before .before .before .enum-told3 .given .1) (b .ensures .1) (λ i. b .ensures .0 (i .ids))
+    listed-as (c .before .before .before .before .enum-told3 .given .1) refl (b .ensures .1) (λ i. b .ensures .0 (i .ids))
 
 pub answer-spec : {M : Type 1} → statement M
 answer-spec =
