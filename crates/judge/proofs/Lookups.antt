@@ -24,7 +24,7 @@ use Rattle.judge.specs.declared.lookup.Question.the-variants.{Before, At
 use Rattle.judge.specs.declared.state.Judge.{Judge}
 use Rattle.judge.specs.declared.state.Refusal.the-variants.{Nothing, Judge as Unfit, Output}
 use Rattle.judge.specs.Words.{Indexed}
-use Rattle.judge.specs.Lookups.{valueOf, wordsOf, writes, ListedBy, lends, Answered, Short, LookedBy}
+use Rattle.judge.specs.Lookups.{valueOf, wordsOf, writes, ListedBy, lends, Answered, LookedBy}
 use Rattle.judge.proofs.lookup.Question as QuestionT
 use Rattle.judge.proofs.Suiting.{Suiting, suiting}
 

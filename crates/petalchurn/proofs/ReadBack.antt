@@ -1,5 +1,5 @@
 -- The words of a judge read back as that judge after any records: every fault of the eight checks has a kind from 1 to 255.
--- So a host's calls are a run of the judge's pushes. Assumes nothing.
+-- Assumes nothing.
 use mathlib.Core.Path.{_≡_, refl, sym, ap, _∙_, subst}
 use mathlib.Core.Bool.{Bool, true, false, cond, not, _&&_}
 use mathlib.Core.List.{List, [], _∷_, map}
@@ -8,8 +8,7 @@ use Prim.Native.Nat.{ℕ, zero, suc, _<_}
 use native.Mathlib.Omega.{arith}
 use lib.ListN.{length, getD, getD-replicate}
 use lib.Dec.{eqb, ltb, leb}
-use borrow.Author.Tests.{eq-eqb, ne-eqb}
-use Rattle.record.specs.Records.{Span, TraceRecord, decode}
+use Rattle.record.specs.Records.{Span, TraceRecord}
 use Rattle.record.specs.declared.named.Node.{Node}
 use Rattle.record.specs.declared.named.Node.the-variants.{Marked, Missing}
 use Rattle.record.specs.Keys.{Key, keyEqb, inside}
@@ -30,12 +29,11 @@ use Rattle.rules.specs.IdsUnique.{Grant, grantEqb, nonempty, shares, tellsGrant
 use Rattle.rules.specs.MetaNeverGoesBack.{Name, differsFrom, namedFault, names, isWon, standingName, nameFault, keyFault, bounds, leastKey, wonFault, metaAt}
 use Rattle.rules.specs.Reports.{passed, atFirst, AtRecord, atLast, reportOf, checks}
 use Rattle.judge.specs.declared.state.Judge.{Judge}
-use Rattle.judge.specs.States.{State, pushRefusal, reportsOf}
+use Rattle.judge.specs.States.{State, reportsOf}
 use Rattle.judge.specs.Openings.{freshOf}
 use Rattle.judge.specs.Words.{Indexed}
-use Rattle.judge.specs.Runs.{After, stateOf}
+use Rattle.judge.specs.Runs.{After}
 use Rattle.petalchurn.specs.StateWords.{stateWords, stateIn, ReadsBack, Readable}
-use Rattle.petalchurn.specs.Calls.{PushesWords}
 use Rattle.petalchurn.proofs.States.{state-back}
 
 -- a case whose kind reads back
@@ -242,7 +240,7 @@ readable j tenant h e = record {
   kinds = λ k l. subst (λ (rs : List Report). ReadsBack (getD rs k passed .verdict)) (sym e) (reports-read tenant h k);
 }
 
--- ---- a host's run
+-- ---- the words
 
 -- the words of a judge that has taken any records are a state, and that judge's
 pub state-after : (h : History) (s : State) → After Indexed h s → stateIn (stateWords (s .judge)) ≡ some (s .judge)
@@ -254,23 +252,3 @@ state-fresh c tenant = state-back (freshOf c tenant) (record {
   eight = refl;
   kinds = λ k l. subst (λ (r : Report). ReadsBack (r .verdict)) (sym (getD-replicate 8 k passed passed l)) tt;
 })
-
--- a host's push that is not refused takes its record: the state after it is that of a judge that has taken one record more
-pub push-after : (state log work bytes state′ log′ work′ : List ℕ) (r : ℕ) (h : History) (j : Judge) → stateIn state ≡ some j
-    → After Indexed h (stateOf j log work) → PushesWords state log work bytes r state′ log′ work′ → r ≡ 0
-    → (k : Judge) × (stateIn state′ ≡ some k) × After Indexed (decode bytes ∷ h) (stateOf k log′ work′)
-push-after state log work bytes state′ log′ work′ r h j e a q z =
-    let f = q .fit j e in
-    let t : eqb (pushRefusal (stateOf j log work) bytes) 0 ≡ true = eq-eqb _ 0 (sym (f .1 .refusal) ∙ sym (f .2) ∙ z) in
-    let n = f .1 .leaves .taken t .after h a in
-    (f .0 .judge, ap stateIn (f .3) ∙ state-after (decode bytes ∷ h) (stateOf (f .0 .judge) log′ work′) n, n)
-
--- one that is refused leaves the state
-pub push-left : (state log work bytes state′ log′ work′ : List ℕ) (r : ℕ) (h : History) (j : Judge) → stateIn state ≡ some j
-    → After Indexed h (stateOf j log work) → PushesWords state log work bytes r state′ log′ work′ → (r ≡ 0 → ⊥)
-    → (stateIn state′ ≡ some j) × (log′ ≡ log) × (work′ ≡ work)
-push-left state log work bytes state′ log′ work′ r h j e a q z =
-    let f = q .fit j e in
-    let t : eqb (pushRefusal (stateOf j log work) bytes) 0 ≡ false = ne-eqb _ 0 (λ x. z (f .2 ∙ f .1 .refusal ∙ x)) in
-    let n = f .1 .leaves .refused t in
-    (ap stateIn (f .3) ∙ ap (λ (s : State). stateIn (stateWords (s .judge))) n ∙ state-after h (stateOf j log work) a, ap (λ (s : State). s .log) n, ap (λ (s : State). s .work) n)
