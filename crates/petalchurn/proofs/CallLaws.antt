@@ -87,7 +87,8 @@ module _ (state : List ℕ) (k : ℕ) (out : List ℕ) where
     given = λ j e f l. never (some-state state e) t;
   }
 
-  module _ (p : Reported) {j : Judge} {n : ℕ} (t : isState state ≡ true) (g : j ≡ judgeIn state) (q : ReportedBy j k p) (e : n ≡ refusalNumber (p .refusal)) where
+  module _ (p : Reported) {j : Judge} {n : ℕ} (t : isState state ≡ true) (g : j ≡ judgeIn state) (q : ReportedBy j k p)
+      (e : n ≡ refusalNumber (p .refusal)) where
     -- what is said of the judge that was read is said of the state's
     fits-at : (i : Judge) → judgeIn state ≡ i → fitsBy (j .capacity) (j .count) ≡ fitsBy (i .capacity) (i .count)
     fits-at i h = ap (λ (x : Judge). fitsBy (x .capacity) (x .count)) (g ∙ h)

@@ -21,7 +21,8 @@ use Rattle.rules.specs.declared.Verdict.{Verdict}
 use Rattle.rules.specs.declared.Verdict.the-variants.{Pass, Faulted}
 use Rattle.rules.specs.Cases.{isFault, faultIf, orCase, caseOf, earliestCase, firstCase}
 use Rattle.rules.specs.History.{History, isKind, isSome, anyOf, latestOf, greatestOf, lowestOf}
-use Rattle.rules.specs.Descriptors.{Entry, spanOf, heldEqb, samePlace, tellsPut, standing, stated, atIn, firstAtGeneration, putFault, putsDiffer, aheadFault, differsFault, statementFault, agreement}
+use Rattle.rules.specs.Descriptors.{Entry, spanOf, heldEqb, samePlace, tellsPut, standing, stated, atIn, firstAtGeneration}
+use Rattle.rules.specs.Descriptors.{putFault, putsDiffer, aheadFault, differsFault, statementFault, agreement}
 use Rattle.rules.specs.OneOwnerPerKey.{byMarked, isHolding, hasHold, lowestMeeting, groupOf, isNamed, overlapAt, installFault, installAt, twiceAt}
 use Rattle.rules.specs.RightHalf.{Registered, registered, registers, isRegistered, owes, isMissing, nodesOf, lacks, missingFault, registeringFault, halfAt}
 use Rattle.rules.specs.GenerationsRise.{Write, hasEffect, tellsWrite, sameWrite, writes, opposes, isEarlier, writeFault, generationsAt}
@@ -101,7 +102,8 @@ ahead-small s vs =
 differs-small : (s : Entry) (vs : List Entry) (v : Entry) → Small (differsFault s vs v)
 unfolding differsFault
 differs-small s vs v =
-    small-if (not (heldEqb (v .held) (s .held))) (small-cond (ltb (v .held .generation) (s .held .generation)) (ahead-small s vs) (small-fault 3 (omega arith) (omega arith)))
+    small-if (not (heldEqb (v .held) (s .held)))
+    (small-cond (ltb (v .held .generation) (s .held .generation)) (ahead-small s vs) (small-fault 3 (omega arith) (omega arith)))
 
 statement-small : (vs : List Entry) (s : Entry) → Small (statementFault vs s)
 unfolding statementFault
@@ -119,7 +121,8 @@ overlap-small x h =
 
 span-small : (tenant : ℕ) (x : TraceRecord) (h : History) (n : ℕ) (s : Span) → Small (installFault tenant x h n s)
 span-small tenant x h n s =
-    small-if (not (isSome (groupOf tenant (s .start)))) (small-of (lowestMeeting (λ r. not (isNamed tenant (x .spans) r)) s n h) (λ r. small-fault 1 (omega arith) (omega arith)))
+    small-if (not (isSome (groupOf tenant (s .start))))
+    (small-of (lowestMeeting (λ r. not (isNamed tenant (x .spans) r)) s n h) (λ r. small-fault 1 (omega arith) (omega arith)))
 
 install-small : (tenant : ℕ) (x : TraceRecord) (h : History) → Small (installAt tenant x h)
 unfolding installAt
@@ -132,7 +135,8 @@ twice-small x h = small-marked (x .node) (λ n. small-if (isKind 1 x && hasHold 
 missing-small : (kind node : ℕ) (h : History) → 0 < kind → kind < 256 → Small (missingFault kind node h)
 unfolding missingFault
 missing-small kind node h p q =
-    small-of (lowestOf (λ right. right) (isMissing node h) (map (λ s. s .right) (registered h))) (λ right. small-of (owes node right h) (λ s. small-fault kind p q))
+    small-of (lowestOf (λ right. right) (isMissing node h) (map (λ s. s .right) (registered h)))
+    (λ right. small-of (owes node right h) (λ s. small-fault kind p q))
 
 registering-small : (x : TraceRecord) (h : History) (s : Registered) → Small (registeringFault x h s)
 unfolding registeringFault
@@ -148,7 +152,8 @@ half-small x h =
 write-small : (w : Write) (o : Option ℕ) (ws : List Write) → Small (writeFault w o ws)
 write-small w none ws = small-fault 1 (omega arith) (omega arith)
 write-small w (some g) ws =
-    small-if (anyOf (λ o. keyEqb (o .key) (w .key) && opposes (w .range) g o) ws) (small-of (latestOf (isEarlier (w .key)) ws) (λ o. small-fault 2 (omega arith) (omega arith)))
+    small-if (anyOf (λ o. keyEqb (o .key) (w .key) && opposes (w .range) g o) ws)
+    (small-of (latestOf (isEarlier (w .key)) ws) (λ o. small-fault 2 (omega arith) (omega arith)))
 
 generations-small : (x : TraceRecord) (h : History) → Small (generationsAt x h)
 unfolding generationsAt
@@ -157,7 +162,10 @@ generations-small x h = small-of (tellsWrite x h) (λ w. small-if (not (anyOf (s
 grant-small : (g : Grant) (o : Option Grant) (bs : List Grant) → Small (grantFault g o bs)
 grant-small g (some o) bs = small-if (not (grantEqb g o)) (small-fault 1 (omega arith) (omega arith))
 grant-small g none bs =
-    small-cond (nonempty g) (small-if (anyOf (shares g) bs) (small-of (greatestOf (λ o. o .first) (λ o. leb (o .first) (g .last)) bs) (λ o. small-fault 3 (omega arith) (omega arith)))) (small-fault 2 (omega arith) (omega arith))
+    small-cond (nonempty g)
+    (small-if (anyOf (shares g) bs)
+    (small-of (greatestOf (λ o. o .first) (λ o. leb (o .first) (g .last)) bs) (λ o. small-fault 3 (omega arith) (omega arith))))
+    (small-fault 2 (omega arith) (omega arith))
 
 ids-small : (x : TraceRecord) (h : History) → Small (idsAt x h)
 unfolding idsAt
@@ -169,7 +177,9 @@ named-small x (some v) = small-if (differsFrom x (v .held)) (small-fault 2 (omeg
 
 name-small : (x : TraceRecord) (n : Name) → Small (nameFault x n)
 name-small x n =
-    small-cond (ltb (n .index) (x .b)) (small-if (ltb (x .d) (n .generation)) (small-fault 3 (omega arith) (omega arith))) (small-if (ltb (n .generation) (x .d)) (small-fault 4 (omega arith) (omega arith)))
+    small-cond (ltb (n .index) (x .b))
+    (small-if (ltb (x .d) (n .generation)) (small-fault 3 (omega arith) (omega arith)))
+    (small-if (ltb (n .generation) (x .d)) (small-fault 4 (omega arith) (omega arith)))
 
 key-small : (x : TraceRecord) (ns : List Name) (k : Key) → Small (keyFault x ns k)
 unfolding keyFault

@@ -42,7 +42,8 @@ returns-2 c =
     let asked = read .before .before in
     let a = asked .before .before .before .before .before .args in
     let some = sym (asked .is-state .ensures) ∙ not-false (asked .is-state .result) (read .before .if1 .left) in
-    looked-done (a .question) (a .state .now) (a .log .now) (a .work .now) (a .out .now) (looked .look-up .result) some (read .read-state .ensures) (looked .look-up .ensures) (c .before .number-of .ensures) refl (c .answer-of2 .ensures)
+    looked-done (a .question) (a .state .now) (a .log .now) (a .work .now) (a .out .now) (looked .look-up .result) some (read .read-state .ensures)
+    (looked .look-up .ensures) (c .before .number-of .ensures) refl (c .answer-of2 .ensures)
 
 pub looked-spec : {M : Type 1} → statement M
 looked-spec =
