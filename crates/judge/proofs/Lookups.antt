@@ -48,7 +48,9 @@ pub none-empty : (q : Question) → q ≡ IsEmpty → 1 ≡ valueOf q []
 none-empty q e = sym (ap (λ (p : Question). valueOf p []) e ∙ empty-none)
 
 not-empty : OneOf (0 ∷ 1 ∷ 2 ∷ 3 ∷ 5 ∷ 6 ∷ []) 4 → ⊥
-not-empty = ⊎-elim (λ e. omega arith) (⊎-elim (λ e. omega arith) (⊎-elim (λ e. omega arith) (⊎-elim (λ e. omega arith) (⊎-elim (λ e. omega arith) (λ e. omega arith)))))
+not-empty =
+    ⊎-elim (λ e. omega arith) (⊎-elim (λ e. omega arith) (⊎-elim (λ e. omega arith)
+    (⊎-elim (λ e. omega arith) (⊎-elim (λ e. omega arith) (λ e. omega arith)))))
 
 pub none-others : (q : Question) → OneOf (0 ∷ 1 ∷ 2 ∷ 3 ∷ 5 ∷ 6 ∷ []) (tagOf QuestionT.the-type q) → 0 ≡ valueOf q []
 unfolding before beforeIn at atIn firstAtGeneration firstAtGenerationIn statements stated told standing firsts greatestOf earliestOf holdersOf blocks inOrder blocksOf firstGrants those
@@ -128,7 +130,8 @@ module _ (q : Question) (j : Judge) (log work out : List ℕ) where
       let none : Answered q [] out out (record { refusal = Nothing; judge = j; value = v }) = record {
         refusal = ap (λ (b : Bool). cond b 8 0) (sym t);
         value = a ∙ ap (λ (b : Bool). cond b 0 (valueOf q [])) (sym t);
-        list = sym (ap (λ (b : Bool). cond b out (wordsOf q [] ++ drop (length (wordsOf q [])) out)) t ∙ ap (λ (ws : List ℕ). ws ++ drop (length ws) out) (none-words q));
+        list = sym (ap (λ (b : Bool). cond b out (wordsOf q [] ++ drop (length (wordsOf q [])) out)) t
+            ∙ ap (λ (ws : List ℕ). ws ++ drop (length ws) out) (none-words q));
       } in
       record {
         judge = refl;

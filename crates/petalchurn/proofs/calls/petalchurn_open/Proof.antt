@@ -1,4 +1,4 @@
--- A list of another length; else the judge's opening as words.
+-- `petalchurn_open`: a list of another length; else the judge's opening as words.
 use Rattle.petalchurn.proofs.CallLaws.{open-short, open-done}
 use borrow.Author.Needs.{needs}
 use Rattle.petalchurn.proofs.calls.petalchurn_open.Statement.{statement}

@@ -1,4 +1,4 @@
--- No state is refused; else the judge's push as words.
+-- `petalchurn_push`: no state is refused; else the judge's push as words.
 use mathlib.Core.Path.{sym, _∙_}
 use borrow.Author.Tests.{not-true, not-false}
 use Rattle.petalchurn.proofs.States.{state-facts}

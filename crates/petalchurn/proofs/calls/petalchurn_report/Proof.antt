@@ -1,4 +1,4 @@
--- No state, a judge's numbers that are none, a list too short; else the report's words.
+-- `petalchurn_report`: no state, a judge's numbers that are none, a list too short; else the report's words.
 use mathlib.Core.Path.{sym, _∙_}
 use borrow.Author.Tests.{not-true, not-false}
 use Rattle.petalchurn.proofs.States.{state-facts}

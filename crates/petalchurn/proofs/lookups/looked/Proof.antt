@@ -1,4 +1,4 @@
--- No state is refused; else the judge's answer.
+-- `looked`: no state is refused; else the judge's answer.
 use mathlib.Core.Path.{refl, sym, _∙_}
 use borrow.Author.Tests.{not-true, not-false}
 use Rattle.petalchurn.proofs.States.{state-facts}

@@ -1,4 +1,4 @@
--- An empty list is lent, and comes back empty.
+-- `looked_bare`: an empty list is lent, and comes back empty.
 use Rattle.petalchurn.proofs.AnswerLaws.{looked-empty}
 use borrow.Author.Needs.{needs}
 use Rattle.petalchurn.proofs.lookups.looked_bare.Statement.{statement}

@@ -1,4 +1,4 @@
--- A list too short; else the judge's answer as words.
+-- `petalchurn_trace`: a list too short; else the judge's answer as words.
 use Rattle.petalchurn.proofs.CallLaws.{trace-short, trace-done}
 use borrow.Author.Needs.{needs}
 use Rattle.petalchurn.proofs.trace.petalchurn_trace.Statement.{statement}

@@ -1,4 +1,4 @@
--- Two stores, and the rows after them.
+-- `write_trace`: two stores, and the rows after them.
 use mathlib.Core.Path.{refl, ap, _∙_}
 use mathlib.Core.Bool.{cond}
 use Prim.Native.Nat.{ℕ}

@@ -1,4 +1,4 @@
--- Row by row.
+-- `write_rows`: row by row.
 use mathlib.Core.Path.{_≡_, ap, _∙_}
 use Prim.Native.Nat.{_-_, _≤_}
 use native.Mathlib.Omega.{arith}
