@@ -5,8 +5,8 @@ use Rattle.record.specs.Keys.{keyLtb, listEqb}
 use Rattle.record.specs.Numbers.{bigEndianFrom}
 use Rattle.rules.specs.History.{anyOf, those, latestOf, earliestOf, greatestOf, lowestOf, told, latest, firsts}
 use Rattle.rules.specs.Cases.{earliestCase, firstCase}
-use Rattle.rules.specs.Descriptors.{heldBy, heldEqb, applied, reached, roleOf, standing, stated, beforeIn, atIn, firstAtGenerationIn, putFault, putsDiffer, aheadFault, differsFault, statementFault, agreement, before, firstAtGeneration}
-use Rattle.rules.specs.IdsUnique.{firstGrants, grantEqb, blocksOf, idsAt}
+use Rattle.rules.specs.Descriptors.{heldBy, heldEqb, applied, reached, roleOf, standing, stated, beforeIn, atIn, firstAtGenerationIn, putFault, putsDiffer, aheadFault, differsFault, statementFault, agreement, before, at, firstAtGeneration, statements, isEmpty}
+use Rattle.rules.specs.IdsUnique.{firstGrants, grantEqb, blocksOf, idsAt, insertBlock, inOrder, blocks, holdersOf}
 use Rattle.rules.specs.OneOwnerPerKey.{holdOf, rangesOf, lowestMeeting, overlapAt, groupOf, isNamed, installAt, twiceAt}
 use Rattle.rules.specs.GenerationsRise.{writes, generationsAt}
 use Rattle.rules.specs.RightHalf.{serverOf, isRestated, pending, registered, registers, recorded, hasApplied, ownDebt, debtAt, owes, restatedWith, missingFault, nodesOf, registeringFault, halfAt}
@@ -15,6 +15,7 @@ use Rattle.rules.specs.Reports.{reportOf}
 use Rattle.rules.specs.Examples.{Row, table, answer}
 use Rattle.rules.specs.MoreExamples.{further}
 use Rattle.rules.specs.RightHalfExamples.{rightHalves}
+use Rattle.rules.specs.LookUpExamples.{LookUp, lookUps, lookUp, blockWords}
 
 -- E1 to E10 and document 01's wrong answers
 pub examples : map answer table ≡ map (λ (r : Row). r .report) table
@@ -30,3 +31,8 @@ more-examples = refl
 pub right-half-examples : map answer rightHalves ≡ map (λ (r : Row). r .report) rightHalves
 unfolding keyLtb listEqb bigEndianFrom anyOf those latestOf earliestOf greatestOf lowestOf told latest firsts earliestCase firstCase heldBy heldEqb applied reached roleOf standing stated beforeIn atIn firstAtGenerationIn putFault putsDiffer aheadFault differsFault statementFault agreement before firstAtGeneration firstGrants grantEqb blocksOf idsAt holdOf rangesOf lowestMeeting overlapAt groupOf isNamed installAt twiceAt writes generationsAt serverOf isRestated pending registered registers recorded hasApplied ownDebt debtAt owes restatedWith missingFault nodesOf registeringFault halfAt names standingName keyFault bounds leastKey wonFault metaAt reportOf
 right-half-examples = refl
+
+-- the look-ups
+pub look-ups : map lookUp lookUps ≡ map (λ (r : LookUp). r .answer) lookUps
+unfolding listEqb anyOf those latestOf earliestOf greatestOf told latest firsts heldBy applied reached roleOf standing stated beforeIn atIn firstAtGenerationIn before at firstAtGeneration statements isEmpty firstGrants blocksOf insertBlock inOrder blocks holdersOf blockWords
+look-ups = refl

@@ -13,3 +13,4 @@ pub mod Builders
 pub mod Examples
 pub mod MoreExamples
 pub mod RightHalfExamples
+pub mod LookUpExamples

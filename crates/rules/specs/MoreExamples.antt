@@ -20,7 +20,9 @@ puts =
     ∷ row agreement (put 2 3 1 b f ∷ putIn live 2 3 1 (1 ∷ []) b f ∷ []) (faultAt 2 1 (2 ∷ 3 ∷ []))
     ∷ row agreement (put 2 3 1 b f ∷ putIn merging 2 3 1 [] b f ∷ []) (faultAt 2 1 (2 ∷ 3 ∷ []))
     ∷ row agreement (put 2 3 1 b f ∷ put 4 3 1 c f ∷ []) passed
+    ∷ row agreement (put 4 3 1 c f ∷ put 2 3 1 b f ∷ []) passed
     ∷ row agreement (put 2 3 1 b f ∷ put 2 4 1 c f ∷ []) passed
+    ∷ row agreement (put 2 4 1 c f ∷ put 2 3 1 b f ∷ []) passed
     -- voters compare as lists
     ∷ row agreement (putIn live 2 3 1 (1 ∷ 2 ∷ []) b f ∷ putIn live 2 3 1 (2 ∷ 1 ∷ []) b f ∷ []) (faultAt 2 1 (2 ∷ 3 ∷ []))
     -- the value that stands is the one at that index, and a later equal one changes nothing
@@ -54,6 +56,7 @@ knowings =
     -- of another node, of no node, of another range, by another kind
     ∷ row agreement (after (apply (by 2) applied 2 5 ∷ [])) passed
     ∷ row agreement (after (apply unmarked applied 2 5 ∷ [])) passed
+    ∷ row agreement (after (apply (by 1) applied 1 5 ∷ [])) passed
     ∷ row agreement (after (apply (by 1) applied 3 5 ∷ [])) passed
     ∷ row agreement (after (rangeSplit (by 1) 2 5 7 ∷ [])) passed
     ∷ row agreement (after (descriptor (by 1) 2 6 6 1 [] b f ∷ [])) passed
@@ -82,15 +85,22 @@ stating =
     ∷ row agreement (holding ∷ created (by 2) snapshot 2 5 0 b f ∷ []) (faultAt 2 3 (2 ∷ 5 ∷ []))
     ∷ row agreement (holding ∷ created (by 2) snapshot 2 5 2 b f ∷ []) passed
     ∷ row agreement (holding ∷ created (by 2) snapshot 2 5 2 b d ∷ put 2 9 3 b d ∷ []) passed
+    ∷ row agreement (holding ∷ created (by 2) snapshot 2 5 3 b d ∷ put 2 9 2 b d ∷ []) passed
+    ∷ row agreement (holding ∷ created (by 2) snapshot 2 5 2 b d ∷ put 1 9 2 b d ∷ []) passed
     ∷ row agreement (holding ∷ created (by 2) snapshot 2 5 2 b d ∷ put 3 9 2 b d ∷ []) passed
-    ∷ row agreement (put 2 2 2 b d ∷ put 2 3 1 b f ∷ created (by 2) snapshot 2 5 2 b d ∷ []) passed
+    -- a value at a lower index with that generation is none
+    ∷ row agreement (put 2 4 2 b d ∷ put 2 5 1 b f ∷ created (by 2) snapshot 2 6 2 b d ∷ []) passed
     -- the lowest such index
     ∷ row agreement (put 2 3 1 b f ∷ put 2 11 2 b d ∷ put 2 9 2 b d ∷ created (by 2) snapshot 2 5 2 b d ∷ []) (faultAt 4 2 (2 ∷ 5 ∷ 9 ∷ []))
     ∷ row agreement (put 2 3 1 b f ∷ put 2 9 2 b d ∷ put 2 11 2 b d ∷ created (by 2) snapshot 2 5 2 b d ∷ []) (faultAt 4 2 (2 ∷ 5 ∷ 9 ∷ []))
-    -- a value may come after the statement, and of two statements the earliest is reported
+    ∷ row agreement (put 2 3 1 b f ∷ put 2 9 2 b d ∷ put 2 11 2 b d ∷ put 3 7 2 b d ∷ created (by 2) snapshot 2 5 2 b d ∷ [])
+    (faultAt 5 2 (2 ∷ 5 ∷ 9 ∷ []))
+    -- a value may come after the statement, and of several statements the earliest is reported
     ∷ row agreement (created unmarked snapshot 2 5 1 b d ∷ put 2 3 1 b f ∷ []) (faultAt 2 3 (2 ∷ 5 ∷ []))
     ∷ row agreement (created (by 2) snapshot 2 6 1 b d ∷ created (by 3) snapshot 2 5 1 b d ∷ put 2 3 1 b f ∷ []) (faultAt 3 3 (2 ∷ 6 ∷ []))
     ∷ row agreement (created (by 2) snapshot 2 5 1 b d ∷ created (by 3) snapshot 2 6 1 b d ∷ put 2 3 1 b f ∷ []) (faultAt 3 3 (2 ∷ 5 ∷ []))
+    ∷ row agreement (created (by 2) snapshot 2 5 1 b d ∷ created (by 3) snapshot 2 6 1 b d ∷ created (by 4) snapshot 2 7 1 b d ∷ put 2 3 1 b f ∷ [])
+    (faultAt 4 3 (2 ∷ 5 ∷ []))
     -- a statement does not stand: a later put at its index may differ from it, and mend it
     ∷ row agreement (created (by 2) snapshot 2 5 1 b d ∷ put 2 5 1 b d ∷ []) passed
     ∷ row agreement (created (by 2) snapshot 2 5 1 b d ∷ put 2 5 1 b f ∷ []) (faultAt 2 3 (2 ∷ 5 ∷ []))
@@ -129,9 +139,13 @@ overlaps =
     ∷ row overlap (holding ∷ removed (by 1) 2 ∷ created (by 1) bootstrap 3 3 1 c d ∷ []) passed
     ∷ row overlap (holding ∷ crashed (by 1) ∷ created (by 1) bootstrap 3 3 1 c d ∷ []) passed
     ∷ row overlap (holding ∷ refused (by 1) ∷ created (by 1) bootstrap 3 3 1 c d ∷ []) passed
+    ∷ row overlap (holding ∷ removed (by 1) 1 ∷ created (by 1) bootstrap 3 3 1 c d ∷ []) (faultAt 3 1 (1 ∷ 3 ∷ 2 ∷ []))
     ∷ row overlap (holding ∷ removed (by 1) 3 ∷ created (by 1) bootstrap 3 3 1 c d ∷ []) (faultAt 3 1 (1 ∷ 3 ∷ 2 ∷ []))
     ∷ row overlap (holding ∷ removed (by 2) 2 ∷ created (by 1) bootstrap 3 3 1 c d ∷ []) (faultAt 3 1 (1 ∷ 3 ∷ 2 ∷ []))
     ∷ row overlap (holding ∷ crashed (by 2) ∷ created (by 1) bootstrap 3 3 1 c d ∷ []) (faultAt 3 1 (1 ∷ 3 ∷ 2 ∷ []))
+    ∷ row overlap (holding ∷ refused (by 2) ∷ created (by 1) bootstrap 3 3 1 c d ∷ []) (faultAt 3 1 (1 ∷ 3 ∷ 2 ∷ []))
+    -- nor does another record of that range
+    ∷ row overlap (holding ∷ apply (by 1) applied 2 4 ∷ created (by 1) bootstrap 3 3 1 c d ∷ []) (faultAt 3 1 (1 ∷ 3 ∷ 2 ∷ []))
     ∷ []
 
 -- ---- install
@@ -156,9 +170,11 @@ installs =
     ∷ row install (holding ∷ refused (by 1) ∷ installed (by 1) (span a c ∷ []) ∷ []) passed
     ∷ row install (holding ∷ removed (by 1) 2 ∷ installed (by 1) (span a c ∷ []) ∷ []) passed
     -- a held range that a start in the record names, after or before; that no start names
-    ∷ row install (holding ∷ installed (by 1) (span a c ∷ span (groupKey 0 2) (groupKey 0 2) ∷ []) ∷ []) passed
-    ∷ row install (holding ∷ installed (by 1) (span (groupKey 0 2) (groupKey 0 2) ∷ span a c ∷ []) ∷ []) passed
-    ∷ row install (holding ∷ installed (by 1) (span (groupKey 0 3) (groupKey 0 3) ∷ span a c ∷ []) ∷ []) (faultAt 2 1 (1 ∷ 2 ∷ []))
+    ∷ row install (holding ∷ installed (by 1) (span a c ∷ span (groupKey 0 2) [] ∷ []) ∷ []) passed
+    ∷ row install (holding ∷ installed (by 1) (span (groupKey 0 2) [] ∷ span a c ∷ []) ∷ []) passed
+    ∷ row install (holding ∷ installed (by 1) (span [] (groupKey 0 2) ∷ span a c ∷ []) ∷ []) (faultAt 2 1 (1 ∷ 2 ∷ []))
+    ∷ row install (holding ∷ installed (by 1) (span (groupKey 0 1) [] ∷ span a c ∷ []) ∷ []) (faultAt 2 1 (1 ∷ 2 ∷ []))
+    ∷ row install (holding ∷ installed (by 1) (span (groupKey 0 3) [] ∷ span a c ∷ []) ∷ []) (faultAt 2 1 (1 ∷ 2 ∷ []))
     -- a span whose start names a group is not judged itself: 16 bytes or more, under the tenant
     ∷ row install (holding ∷ installed (by 1) (span (groupKey 0 3) c ∷ []) ∷ []) passed
     ∷ row install (holding ∷ installed (by 1) (span (groupKey 0 3 ++ a) c ∷ []) ∷ []) passed
@@ -167,10 +183,13 @@ installs =
     ∷ rowUnder 4 install (holding ∷ installed (by 1) (span (groupKey 4 3) c ∷ []) ∷ []) passed
     ∷ rowUnder 4 install (holding ∷ installed (by 1) (span (groupKey 0 3) c ∷ []) ∷ []) (faultAt 2 1 (1 ∷ 2 ∷ []))
     -- the group is the 8 bytes after the tenant's
-    ∷ row install (holding ∷ installed (by 1) (span (groupKey 0 2 ++ a) (groupKey 0 2 ++ a) ∷ span a c ∷ []) ∷ []) passed
-    ∷ rowUnder 2 install (holding ∷ installed (by 1) (span (groupKey 2 3) (groupKey 2 3) ∷ span a c ∷ []) ∷ []) (faultAt 2 1 (1 ∷ 2 ∷ []))
+    ∷ row install (holding ∷ installed (by 1) (span (groupKey 0 2 ++ a) [] ∷ span a c ∷ []) ∷ []) passed
+    ∷ rowUnder 2 install (holding ∷ installed (by 1) (span (groupKey 2 3) [] ∷ span a c ∷ []) ∷ []) (faultAt 2 1 (1 ∷ 2 ∷ []))
     -- the first span, then the lowest range
     ∷ row install (created (by 1) bootstrap 2 3 1 d f ∷ created (by 1) bootstrap 3 3 1 b c ∷ installed (by 1) (span b c ∷ span d e ∷ []) ∷ [])
+    (faultAt 3 1 (1 ∷ 3 ∷ []))
+    ∷ row install
+    (created (by 1) bootstrap 2 3 1 d f ∷ created (by 1) bootstrap 3 3 1 b c ∷ installed (by 1) (span a b ∷ span b c ∷ span d e ∷ []) ∷ [])
     (faultAt 3 1 (1 ∷ 3 ∷ []))
     ∷ row install (created (by 1) bootstrap 2 3 1 d f ∷ created (by 1) bootstrap 3 3 1 b c ∷ installed (by 1) (span a g ∷ []) ∷ [])
     (faultAt 3 1 (1 ∷ 2 ∷ []))
@@ -206,6 +225,10 @@ twices =
 abbrev falling : List TraceRecord
 falling = put 2 3 3 b f ∷ put 2 5 1 b f ∷ []
 
+-- one range whose generation rises from 1 to 3 there
+abbrev rising : List TraceRecord
+rising = put 2 3 1 b f ∷ put 2 5 3 b f ∷ []
+
 -- three ranges: 5 and 6 at generation 1, 7 at generation 2
 abbrev three : List TraceRecord
 three = put 5 3 1 b f ∷ put 6 3 1 b f ∷ put 7 3 2 b f ∷ []
@@ -222,16 +245,20 @@ rises =
     ∷ row generations (holding ∷ write 2 4 c ∷ write 2 5 c ∷ []) passed
     ∷ row generations (falling ++ (write 2 4 c ∷ write 2 6 c ∷ [])) (faultAt 4 2 (2 ∷ 6 ∷ 1 ∷ 3 ∷ 2 ∷ []))
     ∷ row generations (falling ++ (write 2 6 c ∷ write 2 4 c ∷ [])) passed
+    ∷ row generations (rising ++ (write 2 6 c ∷ write 2 4 c ∷ [])) (faultAt 4 2 (2 ∷ 4 ∷ 1 ∷ 3 ∷ 2 ∷ []))
+    ∷ row generations (rising ++ (write 2 4 c ∷ write 2 6 c ∷ [])) passed
     -- of two ranges: at a higher generation, the same, a lower
     ∷ row generations (three ++ (write 5 4 c ∷ write 7 6 c ∷ [])) passed
     ∷ row generations (three ++ (write 5 4 c ∷ write 6 6 c ∷ [])) (faultAt 5 2 (6 ∷ 6 ∷ 1 ∷ 1 ∷ 5 ∷ []))
-    ∷ row generations (three ++ (write 7 4 c ∷ write 6 8 c ∷ [])) (faultAt 5 2 (6 ∷ 8 ∷ 1 ∷ 2 ∷ 7 ∷ []))
+    ∷ row generations (three ++ (write 7 4 c ∷ write 6 4 c ∷ [])) (faultAt 5 2 (6 ∷ 4 ∷ 1 ∷ 2 ∷ 7 ∷ []))
     -- of two keys
     ∷ row generations (three ++ (write 7 4 c ∷ write 6 6 d ∷ [])) passed
+    ∷ row generations (three ++ (write 7 4 c ∷ write 6 6 d ∷ write 6 8 d ∷ [])) passed
     -- any earlier write of the key counts, and the last one is named
     ∷ row generations (put 2 3 3 b f ∷ put 4 3 3 b f ∷ put 5 3 2 b f ∷ write 2 4 c ∷ write 4 4 d ∷ write 5 4 c ∷ [])
     (faultAt 6 2 (5 ∷ 4 ∷ 2 ∷ 3 ∷ 2 ∷ []))
     ∷ row generations (three ++ (write 5 4 c ∷ write 7 4 c ∷ write 6 8 c ∷ [])) (faultAt 6 2 (6 ∷ 8 ∷ 1 ∷ 2 ∷ 7 ∷ []))
+    ∷ row generations (three ++ (write 5 4 c ∷ write 7 4 c ∷ write 7 5 d ∷ write 6 8 c ∷ [])) (faultAt 7 2 (6 ∷ 8 ∷ 1 ∷ 2 ∷ 7 ∷ []))
     ∷ row generations (three ++ (put 5 6 2 b f ∷ write 6 4 c ∷ write 5 7 c ∷ write 7 8 c ∷ [])) (faultAt 7 2 (7 ∷ 8 ∷ 2 ∷ 2 ∷ 5 ∷ []))
     -- the first write at a range and index counts, and no other there: a second is not judged, nor is anything judged by it
     ∷ row generations (holding ∷ write 2 4 c ∷ write 2 4 c ∷ []) passed
@@ -251,11 +278,16 @@ rises =
 
 abbrev grantings : List Row
 grantings =
-    -- a second grant at an index: node, run, first and last
-    row ids (leased 1 5 1 10 19 ∷ leased 2 5 1 10 19 ∷ []) (faultAt 2 1 (5 ∷ []))
-    ∷ row ids (leased 1 5 1 10 19 ∷ leased 1 5 2 10 19 ∷ []) (faultAt 2 1 (5 ∷ []))
-    ∷ row ids (leased 1 5 1 10 19 ∷ leased 1 5 1 11 19 ∷ []) (faultAt 2 1 (5 ∷ []))
-    ∷ row ids (leased 1 5 1 10 19 ∷ leased 1 5 1 10 18 ∷ []) (faultAt 2 1 (5 ∷ []))
+    -- a second grant at an index: node, run, first and last, each alone above and below the first grant's
+    row ids (leased 3 5 4 10 19 ∷ leased 3 5 4 10 19 ∷ []) passed
+    ∷ row ids (leased 3 5 4 10 19 ∷ leased 2 5 4 10 19 ∷ []) (faultAt 2 1 (5 ∷ []))
+    ∷ row ids (leased 3 5 4 10 19 ∷ leased 4 5 4 10 19 ∷ []) (faultAt 2 1 (5 ∷ []))
+    ∷ row ids (leased 3 5 4 10 19 ∷ leased 3 5 3 10 19 ∷ []) (faultAt 2 1 (5 ∷ []))
+    ∷ row ids (leased 3 5 4 10 19 ∷ leased 3 5 5 10 19 ∷ []) (faultAt 2 1 (5 ∷ []))
+    ∷ row ids (leased 3 5 4 10 19 ∷ leased 3 5 4 9 19 ∷ []) (faultAt 2 1 (5 ∷ []))
+    ∷ row ids (leased 3 5 4 10 19 ∷ leased 3 5 4 11 19 ∷ []) (faultAt 2 1 (5 ∷ []))
+    ∷ row ids (leased 3 5 4 10 19 ∷ leased 3 5 4 10 18 ∷ []) (faultAt 2 1 (5 ∷ []))
+    ∷ row ids (leased 3 5 4 10 19 ∷ leased 3 5 4 10 20 ∷ []) (faultAt 2 1 (5 ∷ []))
     -- it is compared with the first at its own index alone, even where it is empty
     ∷ row ids (leased 1 5 1 10 19 ∷ leased 2 6 1 20 30 ∷ leased 1 5 1 10 19 ∷ []) passed
     ∷ row ids (leased 1 5 1 10 19 ∷ leased 1 5 1 40 39 ∷ []) (faultAt 2 1 (5 ∷ []))
@@ -269,6 +301,7 @@ grantings =
     ∷ row ids (leased 1 5 1 10 19 ∷ leased 2 6 1 15 16 ∷ []) (faultAt 2 3 (6 ∷ 10 ∷ []))
     ∷ row ids (leased 1 5 1 10 19 ∷ leased 2 6 1 5 30 ∷ []) (faultAt 2 3 (6 ∷ 10 ∷ []))
     ∷ row ids (leased 1 5 1 7 7 ∷ leased 2 6 1 7 7 ∷ []) (faultAt 2 3 (6 ∷ 7 ∷ []))
+    ∷ row ids (leased 1 5 1 1 3 ∷ leased 1 6 1 10 19 ∷ leased 1 7 1 5 9 ∷ []) passed
     -- the greatest older first not above the new last, in either order of time
     ∷ row ids (leased 1 5 1 50 59 ∷ leased 1 6 1 10 19 ∷ leased 1 7 1 15 16 ∷ []) (faultAt 3 3 (7 ∷ 10 ∷ []))
     ∷ row ids (leased 1 5 1 10 19 ∷ leased 1 6 1 30 39 ∷ leased 1 7 1 15 35 ∷ []) (faultAt 3 3 (7 ∷ 30 ∷ []))
@@ -320,19 +353,27 @@ metas =
     ∷ row meta (values ++ (won 10 3 d e ∷ won 11 1 c d ∷ [])) passed
     ∷ row meta (values ++ (won 10 3 d e ∷ won 11 1 c e ∷ [])) (faultAt 5 3 (11 ∷ 7 ∷ 1 ∷ 3 ∷ []))
     ∷ row meta (values ++ (won 10 3 c e ∷ won 11 1 d f ∷ [])) (faultAt 5 3 (11 ∷ 7 ∷ 1 ∷ 3 ∷ []))
+    -- also below and above the descriptor's own span
+    ∷ row meta (values ++ (won 10 3 [] a ∷ won 11 1 [] a ∷ [])) (faultAt 5 3 (11 ∷ 7 ∷ 1 ∷ 3 ∷ []))
+    ∷ row meta (values ++ (won 10 3 g (g ++ a) ∷ won 11 1 g (g ++ a) ∷ [])) (faultAt 5 3 (11 ∷ 7 ∷ 1 ∷ 3 ∷ []))
     -- an empty won span names nothing and is not judged; nor does a record without one
     ∷ row meta (values ++ (won 10 3 d c ∷ won 11 1 b g ∷ [])) passed
     ∷ row meta (values ++ (won 10 3 b g ∷ won 11 1 d d ∷ [])) passed
     ∷ row meta (values ++ (metaApplied 7 10 3 b g [] ∷ won 11 1 b g ∷ [])) passed
     ∷ row meta (values ++ (won 10 3 b g ∷ metaApplied 7 11 1 b g [] ∷ [])) passed
+    -- no other kind names keys: an install with two spans
+    ∷ row meta (values ++ (installed (by 1) (span a b ∷ span b g ∷ []) ∷ won 0 1 c d ∷ [])) passed
     -- the standing name has the greatest index, in either order of time, the earliest among equals
     ∷ row meta (values ++ (won 10 1 c d ∷ won 12 2 c d ∷ won 11 1 c d ∷ [])) passed
     ∷ row meta (values ++ (won 12 2 c d ∷ won 10 1 c d ∷ won 11 2 c d ∷ [])) passed
     ∷ row meta (values ++ (won 12 2 c d ∷ won 10 1 c d ∷ won 11 3 c d ∷ [])) (faultAt 6 4 (11 ∷ 7 ∷ 3 ∷ 2 ∷ 12 ∷ []))
+    ∷ row meta (values ++ (won 10 2 c d ∷ won 12 2 c d ∷ won 11 3 c d ∷ [])) (faultAt 6 4 (11 ∷ 7 ∷ 3 ∷ 2 ∷ 12 ∷ []))
     ∷ row meta (values ++ (won 10 2 c d ∷ won 10 1 c d ∷ won 11 1 c d ∷ [])) (faultAt 6 3 (11 ∷ 7 ∷ 1 ∷ 2 ∷ []))
     -- the first faulty piece, in key order
     ∷ row meta (values ++ (won 10 2 b c ∷ won 11 3 d e ∷ won 12 1 b f ∷ [])) (faultAt 6 3 (12 ∷ 7 ∷ 1 ∷ 2 ∷ []))
     ∷ row meta (values ++ (won 10 2 d e ∷ won 11 3 b c ∷ won 12 1 b f ∷ [])) (faultAt 6 3 (12 ∷ 7 ∷ 1 ∷ 3 ∷ []))
+    ∷ row meta (values ++ (won 10 2 c d ∷ won 11 3 e f ∷ won 12 1 b g ∷ [])) (faultAt 6 3 (12 ∷ 7 ∷ 1 ∷ 2 ∷ []))
+    ∷ row meta (values ++ (won 10 2 e f ∷ won 11 3 c d ∷ won 12 1 b g ∷ [])) (faultAt 6 3 (12 ∷ 7 ∷ 1 ∷ 3 ∷ []))
     ∷ row meta (values ++ (won 10 1 b d ∷ won 11 2 d e ∷ won 12 1 b f ∷ [])) (faultAt 6 3 (12 ∷ 7 ∷ 1 ∷ 2 ∷ []))
     ∷ row meta (values ++ (won 20 2 b e ∷ won 10 1 d f ∷ won 9 2 c f ∷ [])) (faultAt 6 4 (9 ∷ 7 ∷ 2 ∷ 1 ∷ 10 ∷ []))
     -- in order: kinds 1 and 2 before the walk

@@ -4,7 +4,7 @@ use mathlib.Core.List.{List, [], _∷_, _++_}
 use Prim.Native.Nat.{ℕ}
 use Rattle.record.specs.Records.{TraceRecord}
 use Rattle.rules.specs.Reports.{passed}
-use Rattle.rules.specs.Builders.{by, unmarked, d, f, bootstrap, snapshot, applied, took, created, child, splitOff, orphan, tells, apply, recovered, restated, crashed, rangeSplit, removed, refused}
+use Rattle.rules.specs.Builders.{by, unmarked, d, f, span, record-of, bootstrap, snapshot, applied, took, created, child, splitOff, orphan, tells, apply, recovered, restated, crashed, rangeSplit, removed, refused}
 use Rattle.rules.specs.Examples.{Row, half, row, faultAt, indebted}
 
 -- node 2 registers the split of range 2 at index 5, with range 7 and voter 1
@@ -102,11 +102,15 @@ registrations =
     ∷ row half (tells (by 1) 0 3 6 [] ∷ splitOff (by 2) 7 5 0 (1 ∷ []) ∷ restated (by 1) ∷ []) (faultAt 3 2 (1 ∷ 0 ∷ 5 ∷ 7 ∷ []))
     -- by kind 2 at the range and index of the node's pending split
     ∷ row half (afterSplit (tells (by 1) 2 5 0 (1 ∷ []) ∷ [])) (faultAt 3 2 (1 ∷ 2 ∷ 5 ∷ 8 ∷ []))
+    ∷ row half (afterSplit (tells (by 1) 1 5 0 (1 ∷ []) ∷ [])) passed
     ∷ row half (afterSplit (tells (by 1) 3 5 0 (1 ∷ []) ∷ [])) passed
     ∷ row half (afterSplit (tells (by 1) 2 6 0 (1 ∷ []) ∷ [])) passed
     ∷ row half (afterSplit (tells (by 1) 2 4 5 (1 ∷ []) ∷ [])) passed
     ∷ row half (afterSplit (tells (by 2) 2 5 0 (1 ∷ []) ∷ [])) passed
     ∷ row half (afterSplit (tells unmarked 2 5 0 (1 ∷ []) ∷ [])) passed
+    -- a RaftApply there neither registers nor uses it up
+    ∷ row half (afterSplit (apply (by 1) applied 2 5 ∷ [])) passed
+    ∷ row half (afterSplit (apply (by 1) applied 2 5 ∷ tells (by 1) 2 5 0 (1 ∷ []) ∷ [])) (faultAt 4 2 (1 ∷ 2 ∷ 5 ∷ 8 ∷ []))
     -- pending is the latest one, and a crash or a refusal drops it
     ∷ row half (afterSplit (rangeSplit (by 1) 3 6 9 ∷ tells (by 1) 2 5 0 (1 ∷ []) ∷ [])) passed
     ∷ row half (afterSplit (rangeSplit (by 1) 3 6 9 ∷ tells (by 1) 3 6 0 (1 ∷ []) ∷ [])) (faultAt 4 2 (1 ∷ 3 ∷ 6 ∷ 9 ∷ []))
@@ -130,6 +134,7 @@ applications =
     -- at RangeSplit, before it registers or after
     row half (rangeSplit (by 1) 2 5 8 ∷ registered ∷ restated (by 1) ∷ []) (faultAt 3 2 (1 ∷ 2 ∷ 5 ∷ 7 ∷ []))
     ∷ row half (registered ∷ rangeSplit (by 1) 2 5 8 ∷ restated (by 1) ∷ []) (faultAt 3 2 (1 ∷ 2 ∷ 5 ∷ 7 ∷ []))
+    ∷ row half (registered ∷ rangeSplit (by 1) 2 4 8 ∷ restated (by 1) ∷ []) passed
     ∷ row half (registered ∷ rangeSplit (by 1) 2 6 8 ∷ restated (by 1) ∷ []) passed
     ∷ row half (registered ∷ rangeSplit (by 1) 3 5 8 ∷ restated (by 1) ∷ []) passed
     ∷ row half (registered ∷ rangeSplit (by 2) 2 5 8 ∷ restated (by 1) ∷ []) passed
@@ -137,6 +142,7 @@ applications =
     ∷ row half (apply (by 1) took 2 5 ∷ registered ∷ restated (by 1) ∷ []) passed
     ∷ row half (registered ∷ apply (by 1) took 2 5 ∷ []) (faultAt 2 1 (1 ∷ 2 ∷ 5 ∷ 7 ∷ []))
     ∷ row half (registered ∷ apply (by 1) applied 2 5 ∷ restated (by 1) ∷ []) passed
+    ∷ row half (registered ∷ apply (by 1) took 2 4 ∷ restated (by 1) ∷ []) passed
     ∷ row half (registered ∷ apply (by 1) took 2 6 ∷ restated (by 1) ∷ []) passed
     -- while not restated, at kind 2, every registered index up to applied
     ∷ row half (registered ∷ tells (by 1) 2 3 5 [] ∷ restated (by 1) ∷ []) (faultAt 3 2 (1 ∷ 2 ∷ 5 ∷ 7 ∷ []))
@@ -158,6 +164,14 @@ applications =
     ∷ row half (tells (by 1) 2 3 5 [] ∷ crashed (by 1) ∷ registered ∷ restated (by 1) ∷ []) (faultAt 4 2 (1 ∷ 2 ∷ 5 ∷ 7 ∷ []))
     ∷ row half (tells (by 1) 2 3 5 [] ∷ refused (by 1) ∷ registered ∷ restated (by 1) ∷ []) passed
     ∷ row half (tells (by 1) 2 3 5 [] ∷ refused (by 2) ∷ registered ∷ restated (by 1) ∷ []) (faultAt 4 2 (1 ∷ 2 ∷ 5 ∷ 7 ∷ []))
+    -- it owes the right range of the split that registers, and no other: 6 and 9 are other splits' right ranges, without voters
+    ∷ row half (splitOff (by 2) 6 8 3 [] ∷ tells (by 1) 2 3 5 [] ∷ registered ∷ restated (by 1) ∷ []) (faultAt 4 2 (1 ∷ 2 ∷ 5 ∷ 7 ∷ []))
+    ∷ row half (splitOff (by 2) 9 8 3 [] ∷ tells (by 1) 2 3 5 [] ∷ registered ∷ created (by 1) snapshot 7 5 1 d f ∷ restated (by 1) ∷ []) passed
+    -- registering applies the split that registers, and no other of its index or of its parent
+    ∷ row half (tells (by 5) 5 3 5 [] ∷ splitOff (by 2) 6 5 5 [] ∷ splitOff (by 2) 7 5 3 (5 ∷ []) ∷ restated (by 5) ∷ []) passed
+    ∷ row half (tells (by 5) 5 3 5 [] ∷ splitOff (by 2) 6 5 5 [] ∷ splitOff (by 2) 7 9 5 (5 ∷ []) ∷ restated (by 5) ∷ []) passed
+    ∷ row half (tells (by 5) 5 3 9 [] ∷ splitOff (by 2) 6 5 5 [] ∷ splitOff (by 2) 7 9 5 (5 ∷ []) ∷ restated (by 5) ∷ [])
+    (faultAt 4 2 (5 ∷ 5 ∷ 9 ∷ 7 ∷ []))
     -- what it applied before the split registers: dropped by a refusal, and not by a crash nor by a removal
     ∷ row half (rangeSplit (by 1) 2 5 8 ∷ refused (by 1) ∷ registered ∷ restated (by 1) ∷ []) passed
     ∷ row half (rangeSplit (by 1) 2 5 8 ∷ refused (by 2) ∷ registered ∷ restated (by 1) ∷ []) (faultAt 4 2 (1 ∷ 2 ∷ 5 ∷ 7 ∷ []))
@@ -194,6 +208,19 @@ replaced =
 abbrev reached : List TraceRecord → List TraceRecord
 reached told = tells (by 1) 2 3 6 [] ∷ restated (by 1) ∷ told
 
+-- a record of node 1 of each kind that leaves alone what it held at its restatement
+abbrev others : List TraceRecord
+others =
+    created (by 1) bootstrap 8 5 1 d f
+    ∷ tells (by 1) 8 6 6 []
+    ∷ apply (by 1) applied 8 7
+    ∷ recovered (by 1) 8 7 1
+    ∷ rangeSplit (by 1) 8 9 9
+    ∷ record-of 8 (by 1) 0 0 0 0 0 0 0 [] []
+    ∷ record-of 11 (by 1) 0 0 1 5 1 10 19 [] []
+    ∷ record-of 12 (by 1) 0 0 8 5 0 1 0 [] (span d f ∷ [])
+    ∷ []
+
 abbrev registerings : List Row
 registerings =
     row half (reached (registered ∷ [])) (faultAt 3 2 (1 ∷ 2 ∷ 5 ∷ 7 ∷ []))
@@ -219,6 +246,8 @@ registerings =
     ∷ row half (created (by 1) snapshot 7 5 1 d f ∷ reached (removed (by 1) 7 ∷ registered ∷ [])) passed
     ∷ row half (created (by 1) snapshot 7 5 1 d f ∷ reached (removed (by 1) 7 ∷ restated (by 1) ∷ registered ∷ []))
     (faultAt 6 2 (1 ∷ 2 ∷ 5 ∷ 7 ∷ []))
+    ∷ row half (created (by 1) snapshot 7 5 1 d f ∷ reached (removed (by 1) 7 ∷ restated (by 2) ∷ registered ∷ [])) passed
+    ∷ row half (created (by 1) snapshot 7 5 1 d f ∷ reached (others ++ (registered ∷ []))) passed
     -- a refusal drops the recorded index
     ∷ row half (reached (refused (by 1) ∷ registered ∷ [])) passed
     -- it registers for the first time
