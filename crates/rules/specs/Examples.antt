@@ -8,7 +8,8 @@ use Rattle.rules.specs.declared.Case.the-variants.{Clear}
 use Rattle.rules.specs.declared.Report.{Report}
 use Rattle.rules.specs.Cases.{evidence}
 use Rattle.rules.specs.Reports.{passed, faulted, reportOf, checks}
-use Rattle.rules.specs.Builders.{by, b, c, d, f, span, bootstrap, snapshot, created, descriptor, write, restated, crashed, rangeSplit, leased, metaApplied}
+use Rattle.rules.specs.Builders.{by, b, c, d, f, span, bootstrap, snapshot, created, descriptor, write, restated, crashed, rangeSplit, leased}
+use Rattle.rules.specs.Builders.{metaApplied}
 
 -- ---- rows
 

@@ -4,7 +4,8 @@ use mathlib.Core.List.{List, [], _∷_, _++_}
 use Prim.Native.Nat.{ℕ}
 use Rattle.record.specs.Records.{TraceRecord}
 use Rattle.rules.specs.Reports.{passed}
-use Rattle.rules.specs.Builders.{by, unmarked, d, f, span, record-of, bootstrap, snapshot, applied, took, created, child, splitOff, orphan, tells, apply, recovered, restated, crashed, rangeSplit, removed, refused}
+use Rattle.rules.specs.Builders.{by, unmarked, d, f, span, record-of, bootstrap, snapshot, applied, took, created, child, splitOff, orphan, tells}
+use Rattle.rules.specs.Builders.{apply, recovered, restated, crashed, rangeSplit, removed, refused}
 use Rattle.rules.specs.Examples.{Row, half, row, faultAt, indebted}
 
 -- node 2 registers the split of range 2 at index 5, with range 7 and voter 1
