@@ -6,10 +6,11 @@ use lib.ListN.{getD}
 use Rattle.record.specs.Records.{TraceRecord}
 use Rattle.rules.specs.declared.Case.the-variants.{Clear}
 use Rattle.rules.specs.declared.Report.{Report}
+use Rattle.rules.specs.declared.Verdict.the-variants.{Pass, Faulted}
 use Rattle.rules.specs.Cases.{evidence}
 use Rattle.rules.specs.Reports.{passed, faulted, reportOf, checks}
 use Rattle.rules.specs.Builders.{by, b, c, d, f, span, bootstrap, snapshot, created, descriptor, write, restated, crashed, rangeSplit, leased}
-use Rattle.rules.specs.Builders.{metaApplied}
+use Rattle.rules.specs.Builders.{put, metaApplied}
 
 -- ---- rows
 
@@ -166,7 +167,18 @@ indebted = rangeSplit (by 1) 2 5 7 ∷ descriptor (by 1) 2 5 5 2 (1 ∷ []) b d 
 abbrev wrong3 : List Row
 wrong3 = row half (indebted ++ (crashed (by 1) ∷ restated (by 1) ∷ [])) (faultAt 4 2 (1 ∷ 2 ∷ 5 ∷ 7 ∷ [])) ∷ []
 
+-- three reports written out, for what the other rows call `passed` and `faultAt`: a pass, a fault with missing numbers, one with all five
+abbrev lowered : List TraceRecord
+lowered = put 7 1 1 b d ∷ put 7 2 2 b d ∷ put 7 3 3 b d ∷ metaApplied 7 10 1 b d (span b d ∷ []) ∷ metaApplied 7 9 3 b d (span b d ∷ []) ∷ []
+
+abbrev written : List Row
+written =
+    row ids [] (record { verdict = Pass; at = 0; evidence = record { e0 = 0; e1 = 0; e2 = 0; e3 = 0; e4 = 0 } })
+    ∷ row ids grants (record { verdict = Faulted 3; at = 2; evidence = record { e0 = 6; e1 = 10; e2 = 0; e3 = 0; e4 = 0 } })
+    ∷ row meta lowered (record { verdict = Faulted 4; at = 5; evidence = record { e0 = 9; e1 = 7; e2 = 3; e3 = 1; e4 = 10 } })
+    ∷ []
+
 abbrev pub table : List Row
 table =
     e1 ++ e2 ++ e3-e4 ++ e5 ++ e6 ++ e7 ++ e8 ++ e9 ++ e10
-    ++ wrong1 ++ wrong2 ++ wrong3
+    ++ wrong1 ++ wrong2 ++ wrong3 ++ written
