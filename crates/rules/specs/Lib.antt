@@ -9,4 +9,8 @@ pub mod GenerationsRise
 pub mod RightHalf
 pub mod MetaNeverGoesBack
 pub mod Reports
+pub mod Builders
 pub mod Examples
+pub mod MoreExamples
+pub mod RightHalfExamples
+pub mod LookUpExamples
