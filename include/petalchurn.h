@@ -19,8 +19,9 @@
  *   null, also where the length is 0, and is aligned for its elements; a buffer that a call writes overlaps no other of that call.
  *   If state, log and work do not come from one run of calls, every call is still safe. A push then still gives the refusals of
  *   the table, and one that takes its record still counts it, copies it to its place and changes no other byte of the log; a
- *   report still is what stands in state, and a look-up is still refused by 5 where the table says so. Nothing is promised of the
- *   reports and words that such a push writes, nor of what a look-up that is not refused by 5 answers.
+ *   report still is what stands in state, and a look-up is still refused by 5 where the table says so and else by 8 alone, which
+ *   only petalchurn_holders_of and petalchurn_blocks give. Nothing is promised of the reports and words that such a push writes,
+ *   nor of what a look-up that is not refused answers. A refused push, report or look-up still leaves every buffer as it was.
  *
  * At the same time
  *   A call touches no memory but the buffers that it is given and its stack, and takes no lock. Two calls may run at the same

@@ -24,7 +24,7 @@ use Rattle.judge.specs.declared.lookup.Question.the-variants.{Before, At
 use Rattle.judge.specs.declared.state.Judge.{Judge}
 use Rattle.judge.specs.declared.state.Refusal.the-variants.{Nothing, Judge as Unfit, Output}
 use Rattle.intake.specs.Words.{Indexed}
-use Rattle.judge.specs.Lookups.{valueOf, wordsOf, ListedBy, lends, Answered, Short, LookedBy}
+use Rattle.judge.specs.Lookups.{valueOf, wordsOf, writes, ListedBy, lends, Answered, LookedBy}
 use Rattle.judge.proofs.lookup.Question as QuestionT
 use Rattle.intake.proofs.Suiting.{Suiting, suiting}
 
@@ -48,7 +48,9 @@ pub none-empty : (q : Question) → q ≡ IsEmpty → 1 ≡ valueOf q []
 none-empty q e = sym (ap (λ (p : Question). valueOf p []) e ∙ empty-none)
 
 not-empty : OneOf (0 ∷ 1 ∷ 2 ∷ 3 ∷ 5 ∷ 6 ∷ []) 4 → ⊥
-not-empty = ⊎-elim (λ e. omega arith) (⊎-elim (λ e. omega arith) (⊎-elim (λ e. omega arith) (⊎-elim (λ e. omega arith) (⊎-elim (λ e. omega arith) (λ e. omega arith)))))
+not-empty =
+    ⊎-elim (λ e. omega arith) (⊎-elim (λ e. omega arith) (⊎-elim (λ e. omega arith)
+    (⊎-elim (λ e. omega arith) (⊎-elim (λ e. omega arith) (λ e. omega arith)))))
 
 pub none-others : (q : Question) → OneOf (0 ∷ 1 ∷ 2 ∷ 3 ∷ 5 ∷ 6 ∷ []) (tagOf QuestionT.the-type q) → 0 ≡ valueOf q []
 unfolding before beforeIn at atIn firstAtGeneration firstAtGenerationIn statements stated told standing firsts greatestOf earliestOf holdersOf blocks inOrder blocksOf firstGrants those
@@ -81,17 +83,24 @@ listed-value {words} {out} {n} {l} w e =
       answer = e ∙ sym (ap (λ (b : Bool). cond b TooShort (All n)) t);
     }
 
--- a question by one that it is
-pub listed-as : {q p : Question} {cap n : ℕ} {log work out out′ : List ℕ} {l : Listed} → q ≡ p → (l ≡ TooShort → out′ ≡ out)
+all-fits : (n : ℕ) → All n ≡ TooShort → ⊥
+all-fits n e = let z : _≡_ {A = ℕ} 0 1 = cc in omega arith
+
+-- a question by one that it is: one that writes a list, and one that writes none
+pub listed-as : {q p : Question} {cap n : ℕ} {log work out out′ : List ℕ} {l : Listed} → q ≡ p → writes p ≡ true → (l ≡ TooShort → out′ ≡ out)
     → (Indexed cap (hist log n) work → ListedIn (wordsOf p (hist log n)) out out′ (valueOf p (hist log n)) l)
     → ListedBy q cap log work n out out′ l
-listed-as {cap = cap} {n = n} {log = log} {work = work} {out = out} {out′ = out′} {l = l} e s g =
-    subst (λ (p : Question). ListedBy p cap log work n out out′ l) (sym e) (record { short = s; listed = g })
+listed-as {cap = cap} {n = n} {log = log} {work = work} {out = out} {out′ = out′} {l = l} e w s g =
+    subst (λ (p : Question). ListedBy p cap log work n out out′ l) (sym e) (record { short = s; bare = λ x. never w x; listed = g })
 
 pub valued-as : {q p : Question} {cap n v : ℕ} {log work : List ℕ} → q ≡ p → (out : List ℕ) → ((h : History) → wordsOf p h ≡ [])
     → (Indexed cap (hist log n) work → v ≡ valueOf p (hist log n)) → ListedBy q cap log work n out out (All v)
-valued-as {n = n} {log = log} e out w g =
-    listed-as e (λ s. refl) (λ i. listed-value (w (hist log n)) (ap All (g i)))
+valued-as {cap = cap} {n = n} {v = v} {log = log} {work = work} e out w g =
+    subst (λ (p : Question). ListedBy p cap log work n out out (All v)) (sym e) (record {
+      short = λ s. refl;
+      bare = λ x. (all-fits v, refl);
+      listed = λ i. listed-value (w (hist log n)) (ap All (g i));
+    })
 
 -- the judge that a test hands back is the one given
 pub lends-by : (j : Judge) (log work : List ℕ) {i : Judge} {holds b : Bool} → holds ≡ lends j log work → i ≡ j → holds ≡ b → lends i log work ≡ b
@@ -107,7 +116,7 @@ module _ (q : Question) (j : Judge) (log work out : List ℕ) where
 
   pub looked-refused : {v : ℕ} → lends j log work ≡ false → v ≡ valueOf q []
       → LookedBy q j log work out out (record { refusal = Unfit; judge = j; value = v })
-  looked-refused e v = record { judge = refl; refused = λ x. (refl, v, refl); lent = λ x. never x e; answered = λ x i. never x e }
+  looked-refused e v = record { judge = refl; refused = λ x. (refl, v, refl); lent = λ x. never x e; bare = λ x w. never x e; answered = λ x i. never x e }
 
   -- of no capacity there are no records
   pub looked-none : {v : ℕ} → lends j log work ≡ true → j .capacity ≡ 0 → v ≡ valueOf q []
@@ -121,12 +130,14 @@ module _ (q : Question) (j : Judge) (log work out : List ℕ) where
       let none : Answered q [] out out (record { refusal = Nothing; judge = j; value = v }) = record {
         refusal = ap (λ (b : Bool). cond b 8 0) (sym t);
         value = a ∙ ap (λ (b : Bool). cond b 0 (valueOf q [])) (sym t);
-        list = sym (ap (λ (b : Bool). cond b out (wordsOf q [] ++ drop (length (wordsOf q [])) out)) t ∙ ap (λ (ws : List ℕ). ws ++ drop (length ws) out) (none-words q));
+        list = sym (ap (λ (b : Bool). cond b out (wordsOf q [] ++ drop (length (wordsOf q [])) out)) t
+            ∙ ap (λ (ws : List ℕ). ws ++ drop (length ws) out) (none-words q));
       } in
       record {
         judge = refl;
         refused = λ x. never e x;
         lent = λ x. inl refl;
+        bare = λ x w. (refl, refl);
         answered = λ x i. subst (λ (g : History). Answered q g out out (record { refusal = Nothing; judge = j; value = v })) (sym h) none;
       }
 
@@ -136,6 +147,7 @@ module _ (q : Question) (j : Judge) (log work out : List ℕ) where
       judge = refl;
       refused = λ x. never e x;
       lent = λ x. inr (record { refusal = refl; value = refl; list = g .short s });
+      bare = λ x w. absurd (g .bare w .0 s);
       answered = λ x i.
           let t : tooShort (wordsOf q taken) out ≡ true = short-by _ (valueOf q taken) (sym s ∙ g .listed i .answer) in
           record {
@@ -150,6 +162,7 @@ module _ (q : Question) (j : Judge) (log work out : List ℕ) where
       judge = refl;
       refused = λ x. never e x;
       lent = λ x. inl refl;
+      bare = λ x w. (refl, g .bare w .1);
       answered = λ x i.
           let t = all-by (tooShort (wordsOf q taken) out) (valueOf q taken) k (sym s ∙ g .listed i .answer) in
           record {

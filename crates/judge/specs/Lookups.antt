@@ -53,9 +53,21 @@ wordsOf IsEmpty h = []
 wordsOf (HoldersOf id) h = holderWords (holdersOf id h)
 wordsOf Blocks h = blockWords (blocks h)
 
--- what is answered for the records that the columns are of; and whatever they are, a list that is too short stays as it was
+-- the questions that write a list
+abbrev pub writes : Question → Bool
+writes (Before range index) = false
+writes (At range index) = false
+writes (FirstAtGeneration range generation) = false
+writes Statements = false
+writes IsEmpty = false
+writes (HoldersOf id) = true
+writes Blocks = true
+
+-- what is answered for the records that the columns are of; and whatever they are, a list that is too short stays as it was, and
+-- to a question that writes none no list is too short, and it stays as it was
 pub record ListedBy (q : Question) (cap : ℕ) (log work : List ℕ) (n : ℕ) (out out′ : List ℕ) (r : Listed) : Type 0 where
   pub short : r ≡ TooShort → out′ ≡ out
+  pub bare : writes q ≡ false → (r ≡ TooShort → ⊥) × (out′ ≡ out)
   pub listed : Indexed cap (hist log n) work → ListedIn (wordsOf q (hist log n)) out out′ (valueOf q (hist log n)) r
 
 -- a judge with its buffers' lengths draws no refusal 5
@@ -75,9 +87,11 @@ pub record Short (out out′ : List ℕ) (r : Looked) : Type 0 where
   pub list : out′ ≡ out
 
 -- what a look-up promises: the judge as it was given; 5, with the answer of no records and the list as it was; else no 5, and at 8
--- the list as it was, whatever the work area holds; and where the columns are those of the log's records, their answer
+-- the list as it was, and for a question that writes no list no 8 either and the list as it was, whatever the work area holds; and
+-- where the columns are those of the log's records, their answer
 pub record LookedBy (q : Question) (j : Judge) (log work out out′ : List ℕ) (r : Looked) : Type 0 where
   pub judge : r .judge ≡ j
   pub refused : lends j log work ≡ false → (refusalNumber (r .refusal) ≡ 5) × (r .value ≡ valueOf q []) × (out′ ≡ out)
   pub lent : lends j log work ≡ true → (refusalNumber (r .refusal) ≡ 0) ⊎ Short out out′ r
+  pub bare : lends j log work ≡ true → writes q ≡ false → (refusalNumber (r .refusal) ≡ 0) × (out′ ≡ out)
   pub answered : lends j log work ≡ true → Indexed (j .capacity) (hist log (j .count)) work → Answered q (hist log (j .count)) out out′ r

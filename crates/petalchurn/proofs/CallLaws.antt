@@ -8,6 +8,7 @@ use native.Mathlib.Omega.{arith}
 use lib.ListN.{length, drop, set}
 use lib.Seq.{sets}
 use lib.Dec.{eqb}
+use borrow.Author.Tests.{ne-eqb}
 use Rattle.record.proofs.Keys.{never}
 use Rattle.rules.specs.declared.Report.{Report}
 use Rattle.judge.specs.declared.answer.Reported.{Reported}
@@ -15,16 +16,16 @@ use Rattle.judge.specs.declared.opening.Opened.{Opened}
 use Rattle.judge.specs.declared.push.Pushed.{Pushed}
 use Rattle.judge.specs.declared.state.Judge.{Judge}
 use Rattle.judge.specs.declared.trace.Traced.{Traced}
-use Rattle.judge.specs.States.{refusalNumber}
+use Rattle.judge.specs.States.{State, fitsBy, refusalNumber, pushRefusal}
 use Rattle.judge.specs.Openings.{Opens}
-use Rattle.judge.specs.Answers.{fitsBy, reportNo, ReportedBy}
-use Rattle.judge.specs.Runs.{PushedBy}
+use Rattle.judge.specs.Answers.{reportNo, ReportedBy}
+use Rattle.judge.specs.Runs.{PushedBy, stateOf}
 use Rattle.judge.specs.Traces.{TracedBy}
 use Rattle.rules.specs.Reports.{passed}
 use Rattle.petalchurn.specs.StateWords.{reportWords, rowsOf, stateWords, judgeIn, isState}
 use Rattle.petalchurn.specs.Calls.{OpensWords, PushesWords, ReportsWords, traceWords, TracesWords}
 use Rattle.petalchurn.proofs.Rows.{sets-front, length-rows}
-use Rattle.petalchurn.proofs.States.{fit-of, some-state, none-state}
+use Rattle.petalchurn.proofs.States.{words-read, state-facts, fit-of, some-state, none-state}
 
 -- ---- opening
 
@@ -44,7 +45,18 @@ module _ (tenant : ℕ) (log work state : List ℕ) where
 
 module _ (state log work bytes : List ℕ) where
   pub push-unfit : isState state ≡ false → PushesWords state log work bytes 5 state log work
-  push-unfit t = record { unfit = λ e. (refl, refl, refl, refl); fit = λ j e. never (some-state state e) t }
+  push-unfit t = record { unfit = λ e. refl; fit = λ j e. never (some-state state e) t; untouched = λ z. (refl, refl, refl) }
+
+  -- the judge that a refused push hands back is the one given, and so its words are those given
+  push-left : (p : Pushed) {j : Judge} {state′ log′ work′ : List ℕ} → isState state ≡ true → j ≡ judgeIn state
+      → PushedBy j log work bytes p log′ work′ → state′ ≡ stateWords (p .judge) → (refusalNumber (p .refusal) ≡ 0 → ⊥)
+      → (state′ ≡ state) × (log′ ≡ log) × (work′ ≡ work)
+  push-left p {j} t g q s z =
+      let l = q .leaves .refused (ne-eqb (pushRefusal (stateOf j log work) bytes) 0 (λ x. z (q .refusal ∙ x))) in (
+        s ∙ ap (λ (u : State). stateWords (u .judge)) l ∙ ap stateWords g ∙ sym (words-read state (state-facts state t .size)),
+        ap (λ (u : State). u .log) l,
+        ap (λ (u : State). u .work) l,
+      )
 
   pub push-done : (p : Pushed) {j : Judge} {r : ℕ} {state′ log′ work′ : List ℕ} → isState state ≡ true → j ≡ judgeIn state
       → PushedBy j log work bytes p log′ work′ → state′ ≡ stateWords (p .judge) → r ≡ refusalNumber (p .refusal)
@@ -52,6 +64,7 @@ module _ (state log work bytes : List ℕ) where
   push-done p {log′ = log′} {work′ = work′} t g q s e = record {
     unfit = λ n. never t (none-state state n);
     fit = λ k f. (p, subst (λ (i : Judge). PushedBy i log work bytes p log′ work′) (g ∙ fit-of state t f) q, e, s);
+    untouched = λ z. push-left p t g q s (λ x. z (e ∙ x));
   }
 
 -- ---- a report
@@ -67,13 +80,15 @@ given-by false e h = absurd (omega arith)
 module _ (state : List ℕ) (k : ℕ) (out : List ℕ) where
   pub report-unfit : isState state ≡ false → ReportsWords state k out 5 out
   report-unfit t = record {
-    unfit = λ e. (refl, refl);
+    unfit = λ e. refl;
     refused = λ j e f. never (some-state state e) t;
     short = λ j e f l. never (some-state state e) t;
+    untouched = λ z. refl;
     given = λ j e f l. never (some-state state e) t;
   }
 
-  module _ (p : Reported) {j : Judge} {n : ℕ} (t : isState state ≡ true) (g : j ≡ judgeIn state) (q : ReportedBy j k p) (e : n ≡ refusalNumber (p .refusal)) where
+  module _ (p : Reported) {j : Judge} {n : ℕ} (t : isState state ≡ true) (g : j ≡ judgeIn state) (q : ReportedBy j k p)
+      (e : n ≡ refusalNumber (p .refusal)) where
     -- what is said of the judge that was read is said of the state's
     fits-at : (i : Judge) → judgeIn state ≡ i → fitsBy (j .capacity) (j .count) ≡ fitsBy (i .capacity) (i .count)
     fits-at i h = ap (λ (x : Judge). fitsBy (x .capacity) (x .count)) (g ∙ h)
@@ -83,8 +98,9 @@ module _ (state : List ℕ) (k : ℕ) (out : List ℕ) where
         let b = refused-by (fitsBy (j .capacity) (j .count)) (e ∙ q .refusal) h in
         record {
           unfit = λ x. never t (none-state state x);
-          refused = λ i x f. (b .1, refl);
+          refused = λ i x f. b .1;
           short = λ i x f l. never f (sym (fits-at i (fit-of state t x)) ∙ b .0);
+          untouched = λ z. refl;
           given = λ i x f l. never f (sym (fits-at i (fit-of state t x)) ∙ b .0);
         }
 
@@ -94,7 +110,8 @@ module _ (state : List ℕ) (k : ℕ) (out : List ℕ) where
         record {
           unfit = λ x. never t (none-state state x);
           refused = λ i x f. never (sym (fits-at i (fit-of state t x)) ∙ b) f;
-          short = λ i x f l. (refl, refl);
+          short = λ i x f l. refl;
+          untouched = λ z. refl;
           given = λ i x f l. absurd (omega arith);
         }
 
@@ -106,6 +123,7 @@ module _ (state : List ℕ) (k : ℕ) (out : List ℕ) where
           unfit = λ x. never t (none-state state x);
           refused = λ i x f. never (sym (fits-at i (fit-of state t x)) ∙ b) f;
           short = λ i x f l. absurd (omega arith);
+          untouched = λ z. absurd (z refl);
           given = λ i x f l. (
             refl,
             w ∙ sets-front out (reportWords (p .report)) s

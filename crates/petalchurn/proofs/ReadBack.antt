@@ -1,5 +1,5 @@
 -- The words of a judge read back as that judge after any records: every fault of the eight checks has a kind from 1 to 255.
--- So a host's calls are a run of the judge's pushes. Assumes nothing.
+-- Assumes nothing.
 use mathlib.Core.Path.{_≡_, refl, sym, ap, _∙_, subst}
 use mathlib.Core.Bool.{Bool, true, false, cond, not, _&&_}
 use mathlib.Core.List.{List, [], _∷_, map}
@@ -8,8 +8,7 @@ use Prim.Native.Nat.{ℕ, zero, suc, _<_}
 use native.Mathlib.Omega.{arith}
 use lib.ListN.{length, getD, getD-replicate}
 use lib.Dec.{eqb, ltb, leb}
-use borrow.Author.Tests.{eq-eqb, ne-eqb}
-use Rattle.record.specs.Records.{Span, TraceRecord, decode}
+use Rattle.record.specs.Records.{Span, TraceRecord}
 use Rattle.record.specs.declared.named.Node.{Node}
 use Rattle.record.specs.declared.named.Node.the-variants.{Marked, Missing}
 use Rattle.record.specs.Keys.{Key, keyEqb, inside}
@@ -22,7 +21,8 @@ use Rattle.rules.specs.declared.Verdict.{Verdict}
 use Rattle.rules.specs.declared.Verdict.the-variants.{Pass, Faulted}
 use Rattle.rules.specs.Cases.{isFault, faultIf, orCase, caseOf, earliestCase, firstCase}
 use Rattle.rules.specs.History.{History, isKind, isSome, anyOf, latestOf, greatestOf, lowestOf}
-use Rattle.rules.specs.Descriptors.{Entry, spanOf, heldEqb, samePlace, tellsPut, standing, stated, atIn, firstAtGeneration, putFault, putsDiffer, aheadFault, differsFault, statementFault, agreement}
+use Rattle.rules.specs.Descriptors.{Entry, spanOf, heldEqb, samePlace, tellsPut, standing, stated, atIn, firstAtGeneration}
+use Rattle.rules.specs.Descriptors.{putFault, putsDiffer, aheadFault, differsFault, statementFault, agreement}
 use Rattle.rules.specs.OneOwnerPerKey.{byMarked, isHolding, hasHold, lowestMeeting, groupOf, isNamed, overlapAt, installFault, installAt, twiceAt}
 use Rattle.rules.specs.RightHalf.{Registered, registered, registers, isRegistered, owes, isMissing, nodesOf, lacks, missingFault, registeringFault, halfAt}
 use Rattle.rules.specs.GenerationsRise.{Write, hasEffect, tellsWrite, sameWrite, writes, opposes, isEarlier, writeFault, generationsAt}
@@ -30,12 +30,11 @@ use Rattle.rules.specs.IdsUnique.{Grant, grantEqb, nonempty, shares, tellsGrant
 use Rattle.rules.specs.MetaNeverGoesBack.{Name, differsFrom, namedFault, names, isWon, standingName, nameFault, keyFault, bounds, leastKey, wonFault, metaAt}
 use Rattle.rules.specs.Reports.{passed, atFirst, AtRecord, atLast, reportOf, checks}
 use Rattle.judge.specs.declared.state.Judge.{Judge}
-use Rattle.judge.specs.States.{State, pushRefusal, reportsOf}
+use Rattle.judge.specs.States.{State, reportsOf}
 use Rattle.judge.specs.Openings.{freshOf}
 use Rattle.judge.specs.Words.{Indexed}
-use Rattle.judge.specs.Runs.{After, stateOf}
+use Rattle.judge.specs.Runs.{After}
 use Rattle.petalchurn.specs.StateWords.{stateWords, stateIn, ReadsBack, Readable}
-use Rattle.petalchurn.specs.Calls.{PushesWords}
 use Rattle.petalchurn.proofs.States.{state-back}
 
 -- a case whose kind reads back
@@ -103,7 +102,8 @@ ahead-small s vs =
 differs-small : (s : Entry) (vs : List Entry) (v : Entry) → Small (differsFault s vs v)
 unfolding differsFault
 differs-small s vs v =
-    small-if (not (heldEqb (v .held) (s .held))) (small-cond (ltb (v .held .generation) (s .held .generation)) (ahead-small s vs) (small-fault 3 (omega arith) (omega arith)))
+    small-if (not (heldEqb (v .held) (s .held)))
+    (small-cond (ltb (v .held .generation) (s .held .generation)) (ahead-small s vs) (small-fault 3 (omega arith) (omega arith)))
 
 statement-small : (vs : List Entry) (s : Entry) → Small (statementFault vs s)
 unfolding statementFault
@@ -121,7 +121,8 @@ overlap-small x h =
 
 span-small : (tenant : ℕ) (x : TraceRecord) (h : History) (n : ℕ) (s : Span) → Small (installFault tenant x h n s)
 span-small tenant x h n s =
-    small-if (not (isSome (groupOf tenant (s .start)))) (small-of (lowestMeeting (λ r. not (isNamed tenant (x .spans) r)) s n h) (λ r. small-fault 1 (omega arith) (omega arith)))
+    small-if (not (isSome (groupOf tenant (s .start))))
+    (small-of (lowestMeeting (λ r. not (isNamed tenant (x .spans) r)) s n h) (λ r. small-fault 1 (omega arith) (omega arith)))
 
 install-small : (tenant : ℕ) (x : TraceRecord) (h : History) → Small (installAt tenant x h)
 unfolding installAt
@@ -134,7 +135,8 @@ twice-small x h = small-marked (x .node) (λ n. small-if (isKind 1 x && hasHold 
 missing-small : (kind node : ℕ) (h : History) → 0 < kind → kind < 256 → Small (missingFault kind node h)
 unfolding missingFault
 missing-small kind node h p q =
-    small-of (lowestOf (λ right. right) (isMissing node h) (map (λ s. s .right) (registered h))) (λ right. small-of (owes node right h) (λ s. small-fault kind p q))
+    small-of (lowestOf (λ right. right) (isMissing node h) (map (λ s. s .right) (registered h)))
+    (λ right. small-of (owes node right h) (λ s. small-fault kind p q))
 
 registering-small : (x : TraceRecord) (h : History) (s : Registered) → Small (registeringFault x h s)
 unfolding registeringFault
@@ -150,7 +152,8 @@ half-small x h =
 write-small : (w : Write) (o : Option ℕ) (ws : List Write) → Small (writeFault w o ws)
 write-small w none ws = small-fault 1 (omega arith) (omega arith)
 write-small w (some g) ws =
-    small-if (anyOf (λ o. keyEqb (o .key) (w .key) && opposes (w .range) g o) ws) (small-of (latestOf (isEarlier (w .key)) ws) (λ o. small-fault 2 (omega arith) (omega arith)))
+    small-if (anyOf (λ o. keyEqb (o .key) (w .key) && opposes (w .range) g o) ws)
+    (small-of (latestOf (isEarlier (w .key)) ws) (λ o. small-fault 2 (omega arith) (omega arith)))
 
 generations-small : (x : TraceRecord) (h : History) → Small (generationsAt x h)
 unfolding generationsAt
@@ -159,7 +162,10 @@ generations-small x h = small-of (tellsWrite x h) (λ w. small-if (not (anyOf (s
 grant-small : (g : Grant) (o : Option Grant) (bs : List Grant) → Small (grantFault g o bs)
 grant-small g (some o) bs = small-if (not (grantEqb g o)) (small-fault 1 (omega arith) (omega arith))
 grant-small g none bs =
-    small-cond (nonempty g) (small-if (anyOf (shares g) bs) (small-of (greatestOf (λ o. o .first) (λ o. leb (o .first) (g .last)) bs) (λ o. small-fault 3 (omega arith) (omega arith)))) (small-fault 2 (omega arith) (omega arith))
+    small-cond (nonempty g)
+    (small-if (anyOf (shares g) bs)
+    (small-of (greatestOf (λ o. o .first) (λ o. leb (o .first) (g .last)) bs) (λ o. small-fault 3 (omega arith) (omega arith))))
+    (small-fault 2 (omega arith) (omega arith))
 
 ids-small : (x : TraceRecord) (h : History) → Small (idsAt x h)
 unfolding idsAt
@@ -171,7 +177,9 @@ named-small x (some v) = small-if (differsFrom x (v .held)) (small-fault 2 (omeg
 
 name-small : (x : TraceRecord) (n : Name) → Small (nameFault x n)
 name-small x n =
-    small-cond (ltb (n .index) (x .b)) (small-if (ltb (x .d) (n .generation)) (small-fault 3 (omega arith) (omega arith))) (small-if (ltb (n .generation) (x .d)) (small-fault 4 (omega arith) (omega arith)))
+    small-cond (ltb (n .index) (x .b))
+    (small-if (ltb (x .d) (n .generation)) (small-fault 3 (omega arith) (omega arith)))
+    (small-if (ltb (n .generation) (x .d)) (small-fault 4 (omega arith) (omega arith)))
 
 key-small : (x : TraceRecord) (ns : List Name) (k : Key) → Small (keyFault x ns k)
 unfolding keyFault
@@ -242,7 +250,7 @@ readable j tenant h e = record {
   kinds = λ k l. subst (λ (rs : List Report). ReadsBack (getD rs k passed .verdict)) (sym e) (reports-read tenant h k);
 }
 
--- ---- a host's run
+-- ---- the words
 
 -- the words of a judge that has taken any records are a state, and that judge's
 pub state-after : (h : History) (s : State) → After Indexed h s → stateIn (stateWords (s .judge)) ≡ some (s .judge)
@@ -254,23 +262,3 @@ state-fresh c tenant = state-back (freshOf c tenant) (record {
   eight = refl;
   kinds = λ k l. subst (λ (r : Report). ReadsBack (r .verdict)) (sym (getD-replicate 8 k passed passed l)) tt;
 })
-
--- a host's push that is not refused takes its record: the state after it is that of a judge that has taken one record more
-pub push-after : (state log work bytes state′ log′ work′ : List ℕ) (r : ℕ) (h : History) (j : Judge) → stateIn state ≡ some j
-    → After Indexed h (stateOf j log work) → PushesWords state log work bytes r state′ log′ work′ → r ≡ 0
-    → (k : Judge) × (stateIn state′ ≡ some k) × After Indexed (decode bytes ∷ h) (stateOf k log′ work′)
-push-after state log work bytes state′ log′ work′ r h j e a q z =
-    let f = q .fit j e in
-    let t : eqb (pushRefusal (stateOf j log work) bytes) 0 ≡ true = eq-eqb _ 0 (sym (f .1 .refusal) ∙ sym (f .2) ∙ z) in
-    let n = f .1 .leaves .taken t .after h a in
-    (f .0 .judge, ap stateIn (f .3) ∙ state-after (decode bytes ∷ h) (stateOf (f .0 .judge) log′ work′) n, n)
-
--- one that is refused leaves the state
-pub push-left : (state log work bytes state′ log′ work′ : List ℕ) (r : ℕ) (h : History) (j : Judge) → stateIn state ≡ some j
-    → After Indexed h (stateOf j log work) → PushesWords state log work bytes r state′ log′ work′ → (r ≡ 0 → ⊥)
-    → (stateIn state′ ≡ some j) × (log′ ≡ log) × (work′ ≡ work)
-push-left state log work bytes state′ log′ work′ r h j e a q z =
-    let f = q .fit j e in
-    let t : eqb (pushRefusal (stateOf j log work) bytes) 0 ≡ false = ne-eqb _ 0 (λ x. z (f .2 ∙ f .1 .refusal ∙ x)) in
-    let n = f .1 .leaves .refused t in
-    (ap stateIn (f .3) ∙ ap (λ (s : State). stateIn (stateWords (s .judge))) n ∙ state-after h (stateOf j log work) a, ap (λ (s : State). s .log) n, ap (λ (s : State). s .work) n)

@@ -15,7 +15,8 @@ use Rattle.rules.specs.declared.Verdict.{Verdict}
 use Rattle.rules.specs.declared.Verdict.the-variants.{Pass, Faulted}
 use Rattle.rules.specs.Reports.{passed}
 use Rattle.judge.specs.declared.state.Judge.{Judge}
-use Rattle.petalchurn.specs.StateWords.{kindWord, reportWords, rowsOf, stateWords, verdictIn, reportIn, judgeIn, kindsFit, isState, stateIn, IsState, ReadsBack, Readable}
+use Rattle.petalchurn.specs.StateWords.{kindWord, reportWords, rowsOf, stateWords, verdictIn, reportIn, judgeIn, kindsFit}
+use Rattle.petalchurn.specs.StateWords.{isState, stateIn, IsState, ReadsBack, Readable}
 use Rattle.petalchurn.proofs.Rows.{length-rows, sets-all}
 
 -- ---- from words to a judge and back to the words
@@ -29,14 +30,33 @@ pub fault-read : (w : ℕ) → (w ≡ 0 → ⊥) → Faulted w ≡ verdictIn w
 fault-read zero h = absurd (h refl)
 fault-read (suc k) h = refl
 
-pub report-read : (words : List ℕ) (at : ℕ) {v : Verdict} → v ≡ verdictIn (getD words at 0)
-    → _≡_ {A = Report} (record { verdict = v; at = getD words (at + 1) 0; evidence = record { e0 = getD words (at + 2) 0; e1 = getD words (at + 3) 0; e2 = getD words (at + 4) 0; e3 = getD words (at + 5) 0; e4 = getD words (at + 6) 0 } }) (reportIn words at)
-unfolding reportIn
-report-read words at e = λ i. record { verdict = e i; at = getD words (at + 1) 0; evidence = record { e0 = getD words (at + 2) 0; e1 = getD words (at + 3) 0; e2 = getD words (at + 4) 0; e3 = getD words (at + 5) 0; e4 = getD words (at + 6) 0 } }
+-- a report with the six words after its kind's
+abbrev reportBy : Verdict → List ℕ → ℕ → Report
+reportBy v words at = record {
+  verdict = v;
+  at = getD words (at + 1) 0;
+  evidence = record {
+    e0 = getD words (at + 2) 0;
+    e1 = getD words (at + 3) 0;
+    e2 = getD words (at + 4) 0;
+    e3 = getD words (at + 5) 0;
+    e4 = getD words (at + 6) 0;
+  };
+}
 
-pub judge-read : (words : List ℕ) {r0 r1 r2 r3 r4 r5 r6 r7 : Report} → r0 ≡ reportIn words 3 → r1 ≡ reportIn words 10 → r2 ≡ reportIn words 17 → r3 ≡ reportIn words 24
+pub report-read : (words : List ℕ) (at : ℕ) {v : Verdict} → v ≡ verdictIn (getD words at 0) → reportBy v words at ≡ reportIn words at
+unfolding reportIn
+report-read words at e = λ i. reportBy (e i) words at
+
+pub judge-read : (words : List ℕ) {r0 r1 r2 r3 r4 r5 r6 r7 : Report}
+    → r0 ≡ reportIn words 3 → r1 ≡ reportIn words 10 → r2 ≡ reportIn words 17 → r3 ≡ reportIn words 24
     → r4 ≡ reportIn words 31 → r5 ≡ reportIn words 38 → r6 ≡ reportIn words 45 → r7 ≡ reportIn words 52
-    → _≡_ {A = Judge} (record { capacity = getD words 0 0; count = getD words 1 0; tenant = getD words 2 0; reports = r0 ∷ r1 ∷ r2 ∷ r3 ∷ r4 ∷ r5 ∷ r6 ∷ r7 ∷ [] }) (judgeIn words)
+    → _≡_ {A = Judge} (record {
+      capacity = getD words 0 0;
+      count = getD words 1 0;
+      tenant = getD words 2 0;
+      reports = r0 ∷ r1 ∷ r2 ∷ r3 ∷ r4 ∷ r5 ∷ r6 ∷ r7 ∷ [];
+    }) (judgeIn words)
 unfolding judgeIn
 judge-read words e0 e1 e2 e3 e4 e5 e6 e7 = λ i. record {
   capacity = getD words 0 0;
@@ -180,7 +200,8 @@ report-back : (r : Report) {v : Verdict} → v ≡ r .verdict → _≡_ {A = Rep
 report-back r e = λ i. record { verdict = e i; at = r .at; evidence = r .evidence }
 
 eight-given : (rs : List Report) → length rs ≡ 8
-    → rs ≡ getD rs 0 passed ∷ getD rs 1 passed ∷ getD rs 2 passed ∷ getD rs 3 passed ∷ getD rs 4 passed ∷ getD rs 5 passed ∷ getD rs 6 passed ∷ getD rs 7 passed ∷ []
+    → rs ≡ getD rs 0 passed ∷ getD rs 1 passed ∷ getD rs 2 passed ∷ getD rs 3 passed
+    ∷ getD rs 4 passed ∷ getD rs 5 passed ∷ getD rs 6 passed ∷ getD rs 7 passed ∷ []
 eight-given rs h =
     let s0 = step rs passed 0 1 (omega arith) (omega arith) in
     let s1 = step rs passed 1 2 (omega arith) (omega arith) in
@@ -230,9 +251,10 @@ pub state-back : (j : Judge) → Readable j → stateIn (stateWords j) ≡ some 
 unfolding judge-of
 state-back j r =
     let rs = j .reports in
-    let e : judge-of (j .capacity) (j .count) (j .tenant) (getD rs 0 passed) (getD rs 1 passed) (getD rs 2 passed) (getD rs 3 passed) (getD rs 4 passed) (getD rs 5 passed) (getD rs 6 passed) (getD rs 7 passed) ≡ j =
+    let row : ℕ → Report = λ k. getD rs k passed in
+    let e : judge-of (j .capacity) (j .count) (j .tenant) (row 0) (row 1) (row 2) (row 3) (row 4) (row 5) (row 6) (row 7) ≡ j =
     λ i. record { capacity = j .capacity; count = j .count; tenant = j .tenant; reports = sym (eight-given rs (r .eight)) i } in
     subst (λ (k : Judge). stateIn (stateWords k) ≡ some k) e
-    (eight-in (j .capacity) (j .count) (j .tenant) (getD rs 0 passed) (getD rs 1 passed) (getD rs 2 passed) (getD rs 3 passed) (getD rs 4 passed) (getD rs 5 passed) (getD rs 6 passed) (getD rs 7 passed)
+    (eight-in (j .capacity) (j .count) (j .tenant) (row 0) (row 1) (row 2) (row 3) (row 4) (row 5) (row 6) (row 7)
     (r .kinds 0 (omega arith)) (r .kinds 1 (omega arith)) (r .kinds 2 (omega arith)) (r .kinds 3 (omega arith))
     (r .kinds 4 (omega arith)) (r .kinds 5 (omega arith)) (r .kinds 6 (omega arith)) (r .kinds 7 (omega arith)))

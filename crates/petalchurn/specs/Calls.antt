@@ -9,9 +9,9 @@ use lib.Dec.{eqb}
 use Rattle.judge.specs.declared.push.Pushed.{Pushed}
 use Rattle.judge.specs.declared.state.Judge.{Judge}
 use Rattle.judge.specs.declared.trace.Traced.{Traced}
-use Rattle.judge.specs.States.{refusalNumber}
+use Rattle.judge.specs.States.{fitsBy, refusalNumber}
 use Rattle.judge.specs.Openings.{Fits, freshOf}
-use Rattle.judge.specs.Answers.{fitsBy, reportNo}
+use Rattle.judge.specs.Answers.{reportNo}
 use Rattle.judge.specs.Runs.{PushedBy}
 use Rattle.judge.specs.Traces.{TracedBy}
 use Rattle.petalchurn.specs.StateWords.{reportWords, rowsOf, stateWords, stateIn}
@@ -25,18 +25,21 @@ pub record OpensWords (tenant : ℕ) (log work state : List ℕ) (r : ℕ) (work
   pub opened : length state ≡ 59 → (c : ℕ) → Fits (length log) (length work) c
       → (r ≡ 0) × (work′ ≡ replicate (length work) 0) × (state′ ≡ stateWords (freshOf c tenant))
 
--- a push: 5 where the state is none, and everything as it stood; else what the judge's push gives, its judge as words
+-- a push: 5 where the state is none; else what the judge's push gives, its judge as words. Refused, whatever the words, everything
+-- is as it stood
 pub record PushesWords (state log work rec : List ℕ) (r : ℕ) (state′ log′ work′ : List ℕ) : Type 0 where
-  pub unfit : stateIn state ≡ none → (r ≡ 5) × (state′ ≡ state) × (log′ ≡ log) × (work′ ≡ work)
+  pub unfit : stateIn state ≡ none → r ≡ 5
   pub fit : (j : Judge) → stateIn state ≡ some j
       → (p : Pushed) × PushedBy j log work rec p log′ work′ × (r ≡ refusalNumber (p .refusal)) × (state′ ≡ stateWords (p .judge))
+  pub untouched : (r ≡ 0 → ⊥) → (state′ ≡ state) × (log′ ≡ log) × (work′ ≡ work)
 
 -- a report: 5 where the state is none, or its capacity and count are no judge's; then 8 where the list has fewer than seven words;
 -- else the report's seven words at the front of the list. Refused, the list is as it was
 pub record ReportsWords (state : List ℕ) (k : ℕ) (out : List ℕ) (r : ℕ) (out′ : List ℕ) : Type 0 where
-  pub unfit : stateIn state ≡ none → (r ≡ 5) × (out′ ≡ out)
-  pub refused : (j : Judge) → stateIn state ≡ some j → fitsBy (j .capacity) (j .count) ≡ false → (r ≡ 5) × (out′ ≡ out)
-  pub short : (j : Judge) → stateIn state ≡ some j → fitsBy (j .capacity) (j .count) ≡ true → length out < 7 → (r ≡ 8) × (out′ ≡ out)
+  pub unfit : stateIn state ≡ none → r ≡ 5
+  pub refused : (j : Judge) → stateIn state ≡ some j → fitsBy (j .capacity) (j .count) ≡ false → r ≡ 5
+  pub short : (j : Judge) → stateIn state ≡ some j → fitsBy (j .capacity) (j .count) ≡ true → length out < 7 → r ≡ 8
+  pub untouched : (r ≡ 0 → ⊥) → out′ ≡ out
   pub given : (j : Judge) → stateIn state ≡ some j → fitsBy (j .capacity) (j .count) ≡ true → 7 ≤ length out
       → (r ≡ 0) × (out′ ≡ reportWords (reportNo (j .reports) k) ++ drop 7 out)
 

@@ -1,4 +1,5 @@
--- The interface for C and Rust hosts: a judge as words, and what each call promises.
+-- The interface for C and Rust hosts: a judge as words, what each call promises, and what is claimed of a run of calls.
 pub mod StateWords
 pub mod Calls
 pub mod Lookups
+pub mod Runs

@@ -55,7 +55,8 @@ judgeIn words = record {
   capacity = getD words 0 0;
   count = getD words 1 0;
   tenant = getD words 2 0;
-  reports = reportIn words 3 ∷ reportIn words 10 ∷ reportIn words 17 ∷ reportIn words 24 ∷ reportIn words 31 ∷ reportIn words 38 ∷ reportIn words 45 ∷ reportIn words 52 ∷ [];
+  reports = reportIn words 3 ∷ reportIn words 10 ∷ reportIn words 17 ∷ reportIn words 24
+      ∷ reportIn words 31 ∷ reportIn words 38 ∷ reportIn words 45 ∷ reportIn words 52 ∷ [];
 }
 
 -- a kind is a byte

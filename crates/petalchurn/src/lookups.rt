@@ -1,14 +1,34 @@
-// The look-ups of `Descriptors`.
+// The look-ups: one guarded function for every question, and its seven entries.
 use crate::answer::Answer;
 use crate::answer::answer_of;
-use crate::answer::found_number;
-use crate::answer::truth;
 use crate::words::is_state;
 use crate::words::read_state;
+use judge::lookup::Question;
 use judge::state::number_of;
-ghost use Rattle.rules.specs.Descriptors.{before, at, firstAtGeneration, statements, isEmpty};
-ghost use Rattle.descriptors.specs.Answers.{foundBy};
-ghost use Rattle.petalchurn.specs.Lookups.{foundNumber, truth, AnswersWords};
+ghost use mathlib.Core.List.{[]};
+ghost use Rattle.judge.specs.declared.lookup.Question.the-variants.{Before, At, FirstAtGeneration, Statements, IsEmpty, HoldersOf, Blocks};
+ghost use Rattle.petalchurn.specs.Lookups.{LooksWords};
+
+// The judge's answer to a question; 5 where the words are no judge's.
+fn looked(state: &[u64], log: &[u8], work: &[u64], question: Question, out: &mut [u64]) -> Answer
+    ensures { λ r. ⌜ LooksWords question (now (state .entry)) (now (log .entry)) (now (work .entry)) (now (out .entry)) (now (out .exit)) r ⌝ }
+{
+    if !is_state(state) {
+        return answer_of(5, 0);
+    }
+    let judge = read_state(state);
+    let given = judge.look_up(log, work, question, out);
+    let refusal = given.refusal;
+    answer_of(number_of(refusal), given.value)
+}
+
+// The same for a question that writes no list: it is lent an empty one.
+fn looked_bare(state: &[u64], log: &[u8], work: &[u64], question: Question) -> Answer
+    ensures { λ r. ⌜ LooksWords question (now (state .entry)) (now (log .entry)) (now (work .entry)) [] [] r ⌝ }
+{
+    let mut none = [0u64; 0];
+    looked(state, log, work, question, &mut none)
+}
 
 // The value of a range at the greatest index below the one given.
 #[no_mangle]
@@ -19,16 +39,9 @@ pub extern "C" fn petalchurn_before(
     range: u64,
     index: u64,
 ) -> Answer
-    ensures { λ r. ⌜ AnswersWords (λ h. foundNumber (foundBy (before range index h))) (now (state .entry)) (now (log .entry)) (now (work .entry)) r ⌝ }
+    ensures { λ r. ⌜ LooksWords (Before range index) (now (state .entry)) (now (log .entry)) (now (work .entry)) [] [] r ⌝ }
 {
-    if !is_state(state) {
-        return answer_of(5, 0);
-    }
-    let judge = read_state(state);
-    let looked = judge.before(log, work, range, index);
-    let refusal = looked.refusal;
-    let found = looked.found;
-    answer_of(number_of(refusal), found_number(found))
+    looked_bare(state, log, work, Question::Before(range, index))
 }
 
 // The value of a range at the greatest index not above the one given.
@@ -40,16 +53,9 @@ pub extern "C" fn petalchurn_at(
     range: u64,
     index: u64,
 ) -> Answer
-    ensures { λ r. ⌜ AnswersWords (λ h. foundNumber (foundBy (at range index h))) (now (state .entry)) (now (log .entry)) (now (work .entry)) r ⌝ }
+    ensures { λ r. ⌜ LooksWords (At range index) (now (state .entry)) (now (log .entry)) (now (work .entry)) [] [] r ⌝ }
 {
-    if !is_state(state) {
-        return answer_of(5, 0);
-    }
-    let judge = read_state(state);
-    let looked = judge.at(log, work, range, index);
-    let refusal = looked.refusal;
-    let found = looked.found;
-    answer_of(number_of(refusal), found_number(found))
+    looked_bare(state, log, work, Question::At(range, index))
 }
 
 // The first value of a range and generation.
@@ -61,42 +67,55 @@ pub extern "C" fn petalchurn_first_at_generation(
     range: u64,
     generation: u64,
 ) -> Answer
-    ensures { λ r. ⌜ AnswersWords (λ h. foundNumber (foundBy (firstAtGeneration range generation h))) (now (state .entry)) (now (log .entry)) (now (work .entry)) r ⌝ }
+    ensures { λ r. ⌜ LooksWords (FirstAtGeneration range generation) (now (state .entry)) (now (log .entry)) (now (work .entry)) [] [] r ⌝ }
 {
-    if !is_state(state) {
-        return answer_of(5, 0);
-    }
-    let judge = read_state(state);
-    let looked = judge.first_at_generation(log, work, range, generation);
-    let refusal = looked.refusal;
-    let found = looked.found;
-    answer_of(number_of(refusal), found_number(found))
+    looked_bare(
+        state,
+        log,
+        work,
+        Question::FirstAtGeneration(range, generation),
+    )
 }
 
 // How many statements there are.
 #[no_mangle]
 pub extern "C" fn petalchurn_statements(state: &[u64], log: &[u8], work: &[u64]) -> Answer
-    ensures { λ r. ⌜ AnswersWords statements (now (state .entry)) (now (log .entry)) (now (work .entry)) r ⌝ }
+    ensures { λ r. ⌜ LooksWords Statements (now (state .entry)) (now (log .entry)) (now (work .entry)) [] [] r ⌝ }
 {
-    if !is_state(state) {
-        return answer_of(5, 0);
-    }
-    let judge = read_state(state);
-    let counted = judge.statements(log, work);
-    let refusal = counted.refusal;
-    answer_of(number_of(refusal), counted.count)
+    looked_bare(state, log, work, Question::Statements)
 }
 
 // Whether no value has been put: 1, else 0.
 #[no_mangle]
 pub extern "C" fn petalchurn_is_empty(state: &[u64], log: &[u8], work: &[u64]) -> Answer
-    ensures { λ r. ⌜ AnswersWords (λ h. truth (isEmpty h)) (now (state .entry)) (now (log .entry)) (now (work .entry)) r ⌝ }
+    ensures { λ r. ⌜ LooksWords IsEmpty (now (state .entry)) (now (log .entry)) (now (work .entry)) [] [] r ⌝ }
 {
-    if !is_state(state) {
-        return answer_of(5, 0);
-    }
-    let judge = read_state(state);
-    let told = judge.is_empty(log, work);
-    let refusal = told.refusal;
-    answer_of(number_of(refusal), truth(told.holds))
+    looked_bare(state, log, work, Question::IsEmpty)
+}
+
+// The node of each block that contains an id.
+#[no_mangle]
+pub extern "C" fn petalchurn_holders_of(
+    state: &[u64],
+    log: &[u8],
+    work: &[u64],
+    id: u64,
+    out: &mut [u64],
+) -> Answer
+    ensures { λ r. ⌜ LooksWords (HoldersOf id) (now (state .entry)) (now (log .entry)) (now (work .entry)) (now (out .entry)) (now (out .exit)) r ⌝ }
+{
+    looked(state, log, work, Question::HoldersOf(id), out)
+}
+
+// Three words of each block: first, last, node.
+#[no_mangle]
+pub extern "C" fn petalchurn_blocks(
+    state: &[u64],
+    log: &[u8],
+    work: &[u64],
+    out: &mut [u64],
+) -> Answer
+    ensures { λ r. ⌜ LooksWords Blocks (now (state .entry)) (now (log .entry)) (now (work .entry)) (now (out .entry)) (now (out .exit)) r ⌝ }
+{
+    looked(state, log, work, Question::Blocks, out)
 }

@@ -44,12 +44,23 @@ fn of_number(looked: Looked, out: &mut [u64]) -> Answer {
     }
 }
 
-// A list with so many words an entry. No trace here has a hundred entries.
-fn of_list(looked: Looked, each: u64) -> Answer {
+// A list of holders has one word an entry.
+fn of_holders(looked: Looked) -> Answer {
+    let refusal = looked.refusal;
+    let judge = looked.judge;
+    Answer {
+        judge: judge,
+        words: looked.value,
+        right: is_nothing(refusal),
+    }
+}
+
+// A list of blocks has three words an entry. No trace here has a hundred blocks.
+fn of_blocks(looked: Looked) -> Answer {
     let refusal = looked.refusal;
     let judge = looked.judge;
     let count = looked.value;
-    if (100 < count) | (3 < each) {
+    if 100 < count {
         return Answer {
             judge: judge,
             words: 0,
@@ -58,7 +69,7 @@ fn of_list(looked: Looked, each: u64) -> Answer {
     }
     Answer {
         judge: judge,
-        words: each * count,
+        words: 3 * count,
         right: is_nothing(refusal),
     }
 }
@@ -85,8 +96,8 @@ fn answer_of(judge: Judge, log: &[u8], work: &[u64], q: Stored, out: &mut [u64])
         }
         4 => of_number(judge.look_up(log, work, Question::Statements, out), out),
         5 => of_number(judge.look_up(log, work, Question::IsEmpty, out), out),
-        6 => of_list(judge.look_up(log, work, Question::HoldersOf(first), out), 1),
-        7 => of_list(judge.look_up(log, work, Question::Blocks, out), 3),
+        6 => of_holders(judge.look_up(log, work, Question::HoldersOf(first), out)),
+        7 => of_blocks(judge.look_up(log, work, Question::Blocks, out)),
         _ => Answer {
             judge: judge,
             words: 0,

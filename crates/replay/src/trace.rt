@@ -8,12 +8,14 @@ use crate::tally::Tally;
 use crate::tally::counted;
 use crate::tally::is_last;
 use crate::tally::outcome_of;
-use judge::report::pass;
+use judge::host::push_into;
+use judge::push::Pushed;
 use judge::state::Judge;
 use record::number::u64_at;
 use rules::Evidence;
 use rules::Report;
 use rules::Verdict;
+ghost use Rattle.judge.specs.Runs.{PushedBy};
 
 // What was read of stored reports, and whether all its bytes were there.
 struct ReadEvidence {
@@ -112,6 +114,21 @@ fn next_reports(fd: i32, old: [Report; 8]) -> ReadReports {
     }
 }
 
+// A report that is a pass, as every check's is before the first record.
+fn pass() -> Report {
+    Report {
+        verdict: Verdict::Pass,
+        at: 0,
+        evidence: Evidence {
+            e0: 0,
+            e1: 0,
+            e2: 0,
+            e3: 0,
+            e4: 0,
+        },
+    }
+}
+
 // A pass has a number that no kind has, not even a stored 0, which is no kind.
 fn verdict_number(verdict: Verdict) -> u64 {
     match verdict {
@@ -153,6 +170,18 @@ fn has_reports(judge: Judge, reports: [Report; 8]) -> bool {
     same
 }
 
+// The record pushed into a judge that is lent, as a host does.
+fn pushed_lent(judge: Judge, log: &mut [u8], work: &mut [u64], rec: &[u8]) -> Pushed
+    ensures { λ r. ⌜ PushedBy judge (now (log .entry)) (now (work .entry)) (now (rec .entry)) r (now (log .exit)) (now (work .exit)) ⌝ }
+{
+    let mut lent = judge;
+    let refusal = push_into(&mut lent, log, work, rec);
+    Pushed {
+        refusal: refusal,
+        judge: lent,
+    }
+}
+
 // The record is pushed, and before it the same one without its last byte: that one is refused, and leaves no mark.
 fn pushed(judge: Judge, log: &mut [u8], work: &mut [u64], rec: &[u8]) -> Taken {
     if rec.len() != 368 {
@@ -164,7 +193,7 @@ fn pushed(judge: Judge, log: &mut [u8], work: &mut [u64], rec: &[u8]) -> Taken {
     let torn = judge.push(log, work, &rec[0..367]);
     let first = torn.refusal;
     let kept = torn.judge;
-    let whole = kept.push(log, work, rec);
+    let whole = pushed_lent(kept, log, work, rec);
     let second = whole.refusal;
     let next = whole.judge;
     Taken {

@@ -10,4 +10,8 @@ pub mod RightHalf
 pub mod MetaNeverGoesBack
 pub mod Reports
 pub mod Checks
+pub mod Builders
 pub mod Examples
+pub mod MoreExamples
+pub mod RightHalfExamples
+pub mod LookUpExamples

@@ -1,1 +1,3 @@
 pub mod Printing
+pub mod Calls
+pub mod Readers

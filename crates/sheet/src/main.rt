@@ -1,9 +1,15 @@
 // Prints the sheet of the trace on standard input, judged with capacity 96 and tenant 0.
+mod input;
+mod output;
+
+use crate::input::Input;
+use crate::input::read_input;
+use crate::output::Written;
+use crate::output::write_output;
 use judge::state::Judge;
 use judge::state::number_of;
 use judge::trace::Traced;
-use libc::STDIN_FILENO;
-use libc::STDOUT_FILENO;
+use libc::STDERR_FILENO;
 use sheet_text::SHEET_SIZE;
 use sheet_text::sheet;
 ghost use mathlib.Core.Path.{_≡_};
@@ -49,11 +55,37 @@ fn judged(trace: &[u8], out: &mut [u8]) -> usize
     sheet_of(traced, out)
 }
 
-// Reads until the input ends or 97 records are there, since a pipe may give them in pieces.
-fn main() {
-    let mut trace = [0u8; TRACE];
-    let n = io::read_full(STDIN_FILENO, &mut trace);
+// Says on standard error that the sheet did not reach standard output, or that only a part of it did.
+fn say_stopped(done: usize) {
+    if done == 0 {
+        os::fail(b"sheet: no line printed, writing to standard output failed");
+    } else {
+        os::fail(b"sheet: only a part printed, writing to standard output failed");
+    }
+}
+
+// Prints the sheet of a trace.
+fn print_sheet(trace: &[u8]) {
     let mut out = [0u8; SHEET_SIZE];
-    let end = judged(&trace[..n], &mut out);
-    io::write_all(STDOUT_FILENO, &out[..end]);
+    let end = judged(trace, &mut out);
+    let written = write_output(&out[..end]);
+    match written {
+        Written::All => {}
+        Written::Stopped(done) => say_stopped(done),
+    }
+}
+
+// Reads until the input ends or 97 records are there. Where a read failed there is no sheet: what was read may be any
+// beginning of the trace, and its passes would say nothing of the rest.
+fn main() {
+    if 1 < os::arg_count() {
+        io::write_all(STDERR_FILENO, b"usage: sheet < trace\n");
+        return;
+    }
+    let mut trace = [0u8; TRACE];
+    let input = read_input(&mut trace);
+    match input {
+        Input::Bytes(n) => print_sheet(&trace[..n]),
+        Input::Failed => os::fail(b"sheet: no verdict, reading standard input failed"),
+    }
 }

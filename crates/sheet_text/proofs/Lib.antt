@@ -4,3 +4,5 @@ pub mod Examples
 pub mod Lines
 pub mod Numbers
 pub mod Printed
+pub mod ReadBack
+pub mod Cuts

@@ -1,5 +1,5 @@
 -- The cases of a line, and of what the last line says of a refusal.
-use mathlib.Core.Path.{_≡_, ap}
+use mathlib.Core.Path.{_≡_, sym, ap, _∙_}
 use mathlib.Core.Bool.{Bool, cond}
 use mathlib.Core.List.{List, [], _++_}
 use Prim.Native.Nat.{ℕ}
@@ -7,7 +7,7 @@ use borrow.Author.Tests.{eq-eqb, ne-eqb}
 use Rattle.rules.specs.declared.Evidence.{Evidence}
 use Rattle.rules.specs.declared.Verdict.{Verdict}
 use Rattle.rules.specs.declared.Verdict.the-variants.{Pass, Faulted}
-use Rattle.sheet_text.specs.Sheets.{text, spaced, passLine, faultLine, lineOf, refusedText}
+use Rattle.sheet_text.specs.Sheets.{text, spaced, passLine, faultLine, lineOf, refusedText, lastLine}
 
 pub line-pass : (name : List ℕ) (v : Verdict) (at : ℕ) (e : Evidence) → v ≡ Pass → lineOf name v at e ≡ passLine name
 line-pass name v at e h = ap (λ (w : Verdict). lineOf name w at e) h
@@ -23,3 +23,9 @@ module _ (refusal position : ℕ) where
   pub refused-some : (refusal ≡ 0 → ⊥) → refusedText refusal position ≡ text " refused" ++ spaced refusal ++ text " at" ++ spaced position
   unfolding refusedText
   refused-some n = ap (λ (b : Bool). cond b [] (text " refused" ++ spaced refusal ++ text " at" ++ spaced position)) (ne-eqb refusal 0 n)
+
+-- without a refusal the last line has no position
+pub last-none : (n refusal a b : ℕ) → refusal ≡ 0 → lastLine n refusal a ≡ lastLine n refusal b
+unfolding lastLine
+last-none n refusal a b e =
+    ap (λ (l : List ℕ). text "records" ++ spaced n ++ l ++ text "\n") (refused-none refusal a e ∙ sym (refused-none refusal b e))

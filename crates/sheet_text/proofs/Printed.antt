@@ -4,7 +4,8 @@ use mathlib.Core.Bool.{Bool, true, false, cond}
 use mathlib.Core.List.{List, _++_}
 use Prim.Native.Nat.{ℕ, _≤_, _<_}
 use native.Mathlib.Omega.{arith}
-use lib.ListN.{length, drop, length-append, length-drop}
+use lib.ListN.{length, take, drop, length-append, length-drop}
+use lib.Seq.{take-at}
 use lib.Dec.{leb}
 use borrow.Author.Tests.{le-leb, lt-leb}
 use Rattle.sheet_text.specs.Sheets.{sheetSize, printed, printedLength}
@@ -32,3 +33,12 @@ printed-within bytes out {out′} {r} e f k = within-by (leb sheetSize (length o
         → r ≤ length out′
     within-by true e f k = omega (arith, ap length f, length-append bytes (drop (length bytes) out), length-drop (length bytes) out)
     within-by false e f k = omega arith
+
+-- what stands at the front of a buffer that holds every sheet is the text
+pub printed-front : (bytes out : List ℕ) {out′ : List ℕ} {r : ℕ} → sheetSize ≤ length out → r ≡ printedLength bytes out → out′ ≡ printed bytes out
+    → take r out′ ≡ bytes
+printed-front bytes out {out′} {r} l e f =
+    let b = le-leb sheetSize (length out) l in
+    let n : r ≡ length bytes = e ∙ ap (λ (b : Bool). cond b (length bytes) 0) b in
+    let o : out′ ≡ bytes ++ drop (length bytes) out = f ∙ ap (λ (b : Bool). cond b (bytes ++ drop (length bytes) out) out) b in
+    ap (take r) o ∙ take-at bytes (drop (length bytes) out) r (sym n)

@@ -71,6 +71,20 @@ lastLine records refusal at = text "records" ++ spaced records ++ refusedText re
 unfoldable pub sheetText : List Report → ℕ → ℕ → ℕ → List ℕ
 sheetText reports records refusal at = lines reports ++ lastLine records refusal at
 
+-- a text's first line, with the newline (byte 10) that ends it, and what stands after it
+unfoldable pub firstLine : List ℕ → List ℕ
+firstLine [] = []
+firstLine (b ∷ bs) = cond (eqb b 10) (b ∷ []) (b ∷ firstLine bs)
+
+unfoldable pub afterLine : List ℕ → List ℕ
+afterLine [] = []
+afterLine (b ∷ bs) = cond (eqb b 10) bs (afterLine bs)
+
+-- the lines of a text by their numbers from 0; past the last there is nothing
+unfoldable pub lineAt : ℕ → List ℕ → List ℕ
+lineAt zero bytes = firstLine bytes
+lineAt (suc k) bytes = lineAt k (afterLine bytes)
+
 -- the bytes that hold every sheet
 abbrev pub sheetSize : ℕ
 sheetSize = 2048

@@ -1,40 +1,14 @@
--- What is written is the front of the buffer, as long as the sheet.
-use mathlib.Core.Path.{sym}
-use lib.ListN.{replicate}
-use lib.Seq.{length-take-le}
-use Rattle.sheet_text.proofs.Printed.{printed-within}
-use Rattle.sheet.specs.Printing.{sheetOf}
+-- `main`: the bytes judged are the front of the buffer that was read into.
+use Rattle.sheet.proofs.Calls.{held-bytes}
 use borrow.Author.Needs.{needs}
 use Rattle.sheet.proofs.main.Statement.{statement}
 use Rattle.sheet.proofs.main.Tie as tie
 
-slice-aggregate-read-full : tie.Need-slice-aggregate-read-full
-slice-aggregate-read-full c = search needs
-
-read-full-requires : tie.Need-read-full-requires
-read-full-requires c κs = search needs
-
-array-share-prefix-trace : tie.Need-array-share-prefix-trace
-array-share-prefix-trace c = search needs
-
-slice-aggregate-judged : tie.Need-slice-aggregate-judged
-slice-aggregate-judged c = search needs
-
-slice-aggregate-judged-2 : tie.Need-slice-aggregate-judged-2
-slice-aggregate-judged-2 c = search needs
-
-judged-requires : tie.Need-judged-requires
-judged-requires c κs = search needs
-
-array-share-prefix-out : tie.Need-array-share-prefix-out
-array-share-prefix-out c =
-    let j = c .before .judged in
-    printed-within (sheetOf (j .ensures .traced)) (replicate 2048 0) (j .ensures .size) (j .ensures .is) (j .kept .1 .0)
+arg-count-requires : tie.Need-arg-count-requires
+arg-count-requires c κs = search needs
 
 slice-aggregate-write-all : tie.Need-slice-aggregate-write-all
-slice-aggregate-write-all c =
-    let j = c .before .before .judged in
-    sym (length-take-le (j .result) (j .last .1 .0) (printed-within (sheetOf (j .ensures .traced)) (replicate 2048 0) (j .ensures .size) (j .ensures .is) (j .kept .1 .0)))
+slice-aggregate-write-all c = search needs
 
 write-all-requires : tie.Need-write-all-requires
 write-all-requires c κs = search needs
@@ -42,17 +16,59 @@ write-all-requires c κs = search needs
 returns : tie.Need-returns
 returns c = search needs
 
+slice-aggregate-read-input : tie.Need-slice-aggregate-read-input
+slice-aggregate-read-input c = search needs
+
+read-input-requires : tie.Need-read-input-requires
+read-input-requires c κs = search needs
+
+enum-known-input : tie.Need-enum-known-input
+enum-known-input c = search needs
+
+array-share-prefix-trace : tie.Need-array-share-prefix-trace
+array-share-prefix-trace c =
+    let r = c .before .before .before .before .read-input in
+    held-bytes (r .last .0) (c .before .input .given .1) (r .ensures) .0
+
+slice-aggregate-print-sheet : tie.Need-slice-aggregate-print-sheet
+slice-aggregate-print-sheet c =
+    let r = c .before .before .before .before .before .read-input in
+    held-bytes (r .last .0) (c .before .before .input .given .1) (r .ensures) .1
+
+print-sheet-requires : tie.Need-print-sheet-requires
+print-sheet-requires c κs = search needs
+
+enum-told : tie.Need-enum-told
+enum-told c = search needs
+
+slice-aggregate-fail : tie.Need-slice-aggregate-fail
+slice-aggregate-fail c = search needs
+
+fail-requires : tie.Need-fail-requires
+fail-requires c κs = search needs
+
+returns-2 : tie.Need-returns-2
+returns-2 c = search needs
+
+returns-3 : tie.Need-returns-3
+returns-3 c = search needs
+
 pub main-spec : {M : Type 1} → statement M
 main-spec =
     tie.close
     (tie.spec
-    slice-aggregate-read-full
-    read-full-requires
-    array-share-prefix-trace
-    slice-aggregate-judged
-    slice-aggregate-judged-2
-    judged-requires
-    array-share-prefix-out
+    arg-count-requires
     slice-aggregate-write-all
     write-all-requires
-    returns)
+    returns
+    slice-aggregate-read-input
+    read-input-requires
+    enum-known-input
+    array-share-prefix-trace
+    slice-aggregate-print-sheet
+    print-sheet-requires
+    enum-told
+    slice-aggregate-fail
+    fail-requires
+    returns-2
+    returns-3)

@@ -1,9 +1,8 @@
--- Each question by the look-back that answers it.
-use mathlib.Core.Path.{_≡_, refl, ap, _∙_}
+-- `answer`: each question by the look-back that answers it.
+use mathlib.Core.Path.{refl, ap, _∙_}
 use Rattle.history.specs.Logs.{hist}
 use Rattle.history.proofs.Logs.{hist-length}
 use Rattle.judge.specs.Lookups.{foundNumber, truth}
-use Rattle.judge.specs.declared.lookup.Question.the-variants.{Before, At, FirstAtGeneration, Statements, IsEmpty, HoldersOf, Blocks}
 use Rattle.judge.proofs.Lookups.{valued-as, listed-as}
 use borrow.Author.Needs.{needs}
 use Rattle.judge.proofs.lookup.answer.Statement.{statement}
@@ -66,27 +65,36 @@ blocks-requires c κs = search needs
 returns : tie.Need-returns
 returns c =
     let a = c .before .before .before .before .before .before .before .before .args in
-    valued-as (c .before .before .before .question .given .1) (a .out .now) (λ h. refl) (λ i. c .found-number .ensures ∙ ap foundNumber (c .before .before2 .ensures (i .descriptors)))
+    let found = c .before in
+    valued-as (found .before .before .question .given .1) (a .out .now) (λ h. refl)
+    (λ i. c .found-number .ensures ∙ ap foundNumber (found .before2 .ensures (i .descriptors)))
 
 returns-2 : tie.Need-returns-2
 returns-2 c =
     let a = c .before .before .before .before .before .before .before .before .args in
-    valued-as (c .before .before .before .question2 .given .1) (a .out .now) (λ h. refl) (λ i. c .found-number2 .ensures ∙ ap foundNumber (c .before .at .ensures (i .descriptors)))
+    let found = c .before in
+    valued-as (found .before .before .question2 .given .1) (a .out .now) (λ h. refl)
+    (λ i. c .found-number2 .ensures ∙ ap foundNumber (found .at .ensures (i .descriptors)))
 
 returns-3 : tie.Need-returns-3
 returns-3 c =
     let a = c .before .before .before .before .before .before .before .before .args in
-    valued-as (c .before .before .before .question3 .given .1) (a .out .now) (λ h. refl) (λ i. c .found-number3 .ensures ∙ ap foundNumber (c .before .first-at-generation .ensures (i .descriptors)))
+    let found = c .before in
+    valued-as (found .before .before .question3 .given .1) (a .out .now) (λ h. refl)
+    (λ i. c .found-number3 .ensures ∙ ap foundNumber (found .first-at-generation .ensures (i .descriptors)))
 
 returns-4 : tie.Need-returns-4
 returns-4 c =
     let a = c .before .before .before .before .before .before .args in
-    valued-as (c .before .enum-told .given .1) (a .out .now) (λ h. refl) (λ i. c .statements .ensures (hist (a .log .now) (a .n)) (hist-length (a .log .now) (a .n)) (i .descriptors))
+    valued-as (c .before .enum-told .given .1) (a .out .now) (λ h. refl)
+    (λ i. c .statements .ensures (hist (a .log .now) (a .n)) (hist-length (a .log .now) (a .n)) (i .descriptors))
 
 returns-5 : tie.Need-returns-5
 returns-5 c =
     let a = c .before .before .before .before .before .before .before .args in
-    valued-as (c .before .before .enum-told2 .given .1) (a .out .now) (λ h. refl) (λ i. c .truth .ensures ∙ ap truth (c .before .is-empty .ensures (hist (a .log .now) (a .n)) (hist-length (a .log .now) (a .n)) (i .descriptors)))
+    let told = c .before in
+    valued-as (told .before .enum-told2 .given .1) (a .out .now) (λ h. refl)
+    (λ i. c .truth .ensures ∙ ap truth (told .is-empty .ensures (hist (a .log .now) (a .n)) (hist-length (a .log .now) (a .n)) (i .descriptors)))
 
 same-length : tie.Need-same-length
 same-length c = search needs
@@ -94,7 +102,7 @@ same-length c = search needs
 returns-6 : tie.Need-returns-6
 returns-6 c =
     let h = c .before .before .holders-of in
-    listed-as (c .before .before .before .before .before .question4 .given .1) (h .ensures .1) (λ i. h .ensures .0 (i .ids))
+    listed-as (c .before .before .before .before .before .question4 .given .1) refl (h .ensures .1) (λ i. h .ensures .0 (i .ids))
 
 same-length-2 : tie.Need-same-length-2
 same-length-2 c = search needs
@@ -102,7 +110,7 @@ same-length-2 c = search needs
 returns-7 : tie.Need-returns-7
 returns-7 c =
     let b = c .before .before .blocks2 in
-    listed-as (c .before .before .before .before .enum-told3 .given .1) (b .ensures .1) (λ i. b .ensures .0 (i .ids))
+    listed-as (c .before .before .before .before .enum-told3 .given .1) refl (b .ensures .1) (λ i. b .ensures .0 (i .ids))
 
 pub answer-spec : {M : Type 1} → statement M
 answer-spec =

@@ -1,4 +1,4 @@
--- `IsEmpty` holds of no records; every other answer is 0.
+-- `of_none`: `IsEmpty` holds of no records; every other answer is 0.
 use Rattle.judge.proofs.Lookups.{none-empty, none-others}
 use borrow.Author.Needs.{needs}
 use Rattle.judge.proofs.lookup.of_none.Statement.{statement}

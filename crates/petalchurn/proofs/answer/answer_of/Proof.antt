@@ -1,4 +1,4 @@
--- Kept, or cleared.
+-- `answer_of`: kept, or cleared.
 use Rattle.petalchurn.proofs.AnswerLaws.{answer-kept, answer-cleared}
 use Rattle.petalchurn.proofs.answer.answer_of.Statement.{statement}
 use Rattle.petalchurn.proofs.answer.answer_of.Tie as tie

@@ -1,4 +1,4 @@
--- A list of another length; else the judge's opening as words.
+-- `petalchurn_open`: a list of another length; else the judge's opening as words.
 use Rattle.petalchurn.proofs.CallLaws.{open-short, open-done}
 use borrow.Author.Needs.{needs}
 use Rattle.petalchurn.proofs.calls.petalchurn_open.Statement.{statement}
@@ -26,8 +26,12 @@ same-length-2 c = search needs
 
 returns-2 : tie.Need-returns-2
 returns-2 c =
-    let a = c .before .before .before .before .before .before .before .before .before .before .before .before .before .before .args in
-    open-done (a .tenant) (a .log .now) (a .work .now) (a .state .now) (c .before .before .before .before .before .before .before .before .«open» .result) (c .before .before .before .before .before .before .before .before .before .before .if1 .left) (c .before .before .before .before .before .before .before .before .«open» .ensures) (c .before .before .before .write-state .ensures) (c .number-of .ensures)
+    let written = c .before .before .before in
+    let opened = written .before .before .before .before .before in
+    let asked = opened .before .before in
+    let a = asked .before .before .before .before .args in
+    open-done (a .tenant) (a .log .now) (a .work .now) (a .state .now) (opened .«open» .result) (asked .if1 .left) (opened .«open» .ensures)
+    (written .write-state .ensures) (c .number-of .ensures)
 
 pub petalchurn-open-spec : {M : Type 1} → statement M
 petalchurn-open-spec =

@@ -1,4 +1,4 @@
--- A list too short; else the judge's answer as words.
+-- `petalchurn_trace`: a list too short; else the judge's answer as words.
 use Rattle.petalchurn.proofs.CallLaws.{trace-short, trace-done}
 use borrow.Author.Needs.{needs}
 use Rattle.petalchurn.proofs.trace.petalchurn_trace.Statement.{statement}
@@ -26,8 +26,12 @@ same-length-3 c = search needs
 
 returns-2 : tie.Need-returns-2
 returns-2 c =
-    let a = c .before .before .before .before .before .before .before .before .before .before .before .before .before .before .before .before .args in
-    trace-done (a .tenant) (a .log .now) (a .work .now) (a .trace .now) (a .out .now) (c .before .before .before .before .before .before .before .before .judge-trace .result) (c .before .before .before .before .before .before .before .before .before .before .before .if1 .left) (c .before .before .before .before .before .before .before .before .judge-trace .ensures) (c .before .before .write-trace .ensures .0) (c .before .before .write-trace .ensures .1)
+    let written = c .before .before in
+    let traced = written .before .before .before .before .before .before in
+    let asked = traced .before .before .before in
+    let a = asked .before .before .before .before .before .args in
+    trace-done (a .tenant) (a .log .now) (a .work .now) (a .trace .now) (a .out .now) (traced .judge-trace .result) (asked .if1 .left)
+    (traced .judge-trace .ensures) (written .write-trace .ensures .0) (written .write-trace .ensures .1)
 
 pub petalchurn-trace-spec : {M : Type 1} → statement M
 petalchurn-trace-spec =

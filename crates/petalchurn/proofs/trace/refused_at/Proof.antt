@@ -1,4 +1,4 @@
--- 0 or the number.
+-- `refused_at`: 0 or the number.
 use mathlib.Core.Path.{sym, ap}
 use mathlib.Core.Bool.{Bool, cond}
 use borrow.Author.Tests.{eq-eqb, ne-eqb}

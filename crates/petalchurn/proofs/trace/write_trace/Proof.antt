@@ -1,4 +1,4 @@
--- Two stores, and the rows after them.
+-- `write_trace`: two stores, and the rows after them.
 use mathlib.Core.Path.{refl, ap, _∙_}
 use mathlib.Core.Bool.{cond}
 use Prim.Native.Nat.{ℕ}
@@ -30,10 +30,14 @@ same-length c = c .before .before .write-rows .kept .0 ∙ simp length-set
 
 returns : tie.Need-returns
 returns c =
-    let a = c .before .before .before .before .before .before .before .before .before .args in
-    let w = c .before .before .write-rows .ensures in
-    let n = c .before .before .before .before .before .number-of .ensures in
-    (n, w .1 ∙ trace-written (a .out .now) (a .traced) (c .before .before .before .before .before .before .before .before .before .pre) (w .0) refl (c .before .before .before .before .refused-at .ensures ∙ ap (λ (k : ℕ). cond (eqb k 0) 0 (a .traced .at)) n))
+    let written = c .before .before in
+    let at = written .before .before in
+    let numbered = at .before in
+    let start = numbered .before .before .before .before in
+    let w = written .write-rows .ensures in
+    let n = numbered .number-of .ensures in
+    let refused = at .refused-at .ensures ∙ ap (λ (k : ℕ). cond (eqb k 0) 0 (start .args .traced .at)) n in
+    (n, w .1 ∙ trace-written (start .args .out .now) (start .args .traced) (start .pre) (w .0) refl refused)
 
 pub write-trace-spec : {M : Type 1} → statement M
 write-trace-spec =

@@ -1,4 +1,4 @@
--- Other than 59 words are no state; of 59 the kinds decide.
+-- `is_state`: other than 59 words are no state; of 59 the kinds decide.
 use mathlib.Core.Path.{sym, _∙_}
 use Rattle.petalchurn.proofs.States.{state-size, state-kinds}
 use borrow.Author.Needs.{needs}

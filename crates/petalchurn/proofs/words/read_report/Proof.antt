@@ -1,4 +1,4 @@
--- The seven words from the place on.
+-- `read_report`: the seven words from the place on.
 use Rattle.petalchurn.proofs.States.{report-read}
 use borrow.Author.Needs.{needs}
 use Rattle.petalchurn.proofs.words.read_report.Statement.{statement}

@@ -1,4 +1,4 @@
--- Eight reports, and the three words before them.
+-- `read_state`: eight reports, and the three words before them.
 use native.Mathlib.Omega.{arith}
 use Rattle.petalchurn.proofs.States.{judge-read}
 use borrow.Author.Needs.{needs}

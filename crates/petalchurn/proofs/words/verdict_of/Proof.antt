@@ -1,4 +1,4 @@
--- A word that is not 0 is a fault's kind.
+-- `verdict_of`: a word that is not 0 is a fault's kind.
 use Rattle.petalchurn.proofs.States.{fault-read}
 use borrow.Author.Needs.{needs}
 use Rattle.petalchurn.proofs.words.verdict_of.Statement.{statement}

@@ -1,4 +1,4 @@
--- Seven stores in a row.
+-- `write_report`: seven stores in a row.
 use native.Mathlib.Omega.{arith}
 use lib.ListN.{length-set}
 use Rattle.petalchurn.proofs.Rows.{report-written}

@@ -1,4 +1,4 @@
--- Row by row.
+-- `write_rows`: row by row.
 use mathlib.Core.Path.{_≡_, ap, _∙_}
 use Prim.Native.Nat.{_-_, _≤_}
 use native.Mathlib.Omega.{arith}
@@ -34,7 +34,8 @@ add-write-report c = search needs
 write-report-requires : tie.Need-write-report-requires Inv-loop μ-loop
 write-report-requires c κs =
     let a = c .before .before .before .before .before .args in
-    let n = ap length (c .before .before .before .loop .inv .1) ∙ length-sets (a .out .now) (a .at) (rowsOf (take (c .before .before .before .loop .k) (a .t3))) in
+    let l = c .before .before .before .loop in
+    let n = ap length (l .inv .1) ∙ length-sets (a .out .now) (a .at) (rowsOf (take (l .k) (a .t3))) in
     omega (arith, c .before .before .before .before .before .pre)
 
 add-k : tie.Need-add-k Inv-loop μ-loop

@@ -1,4 +1,4 @@
--- Three stores, and the rows after them.
+-- `write_state`: three stores, and the rows after them.
 use mathlib.Core.Path.{_∙_}
 use native.Mathlib.Omega.{arith}
 use lib.ListN.{length-set}

@@ -1,0 +1,99 @@
+-- What is read is enough: after 97 records nothing can change what a judge of capacity 96 takes and refuses. Assumes nothing.
+use mathlib.Core.Path.{_≡_, refl, sym, ap, _∙_}
+use mathlib.Core.Bool.{Bool, true, false, cond}
+use mathlib.Core.List.{List, [], _∷_}
+use Prim.Native.Nat.{ℕ, zero, suc, _+_, _*_, _≤_, _<_}
+use native.Mathlib.Omega.{arith}
+use lib.ListN.{length, take, drop, length-take, length-drop}
+use lib.Seq.{take-nil, take-take}
+use lib.Dec.{eqb}
+use borrow.Author.Tests.{eq-eqb}
+use Rattle.record.specs.Form.{refusalOf}
+use Rattle.judge.specs.States.{orFullBy}
+use Rattle.judge.specs.Pieces.{piecesIn, pieces, refusalAfter, soundIn, refusalIn, soundPieces, firstRefusal, recordsTaken, recordsIn}
+
+-- ---- the pieces of the first so many records are the first so many pieces
+
+drop-take : (n m k : ℕ) (l : List ℕ) → k ≡ n + m → drop n (take k l) ≡ take m (drop n l)
+drop-take zero m k l e = let f : k ≡ m = omega arith in ap (λ (j : ℕ). take j l) f
+drop-take (suc n) m k [] e = ap (drop (suc n)) (take-nil k) ∙ take-none m
+  where
+    take-none : (m : ℕ) → _≡_ {A = List ℕ} [] (take m [])
+    take-none zero = refl
+    take-none (suc m) = refl
+drop-take (suc n) m zero (x ∷ l) e = absurd (omega arith)
+drop-take (suc n) m (suc k) (x ∷ l) e = drop-take n m k l (omega arith)
+
+pieces-nil : (k : ℕ) → piecesIn k [] ≡ []
+unfolding piecesIn
+pieces-nil zero = refl
+pieces-nil (suc k) = refl
+
+pieces-on : (k : ℕ) (s : List ℕ) → 0 < length s → piecesIn (suc k) s ≡ take 368 s ∷ piecesIn k (drop 368 s)
+unfolding piecesIn
+pieces-on k [] l = absurd (omega arith)
+pieces-on k (x ∷ s) l = refl
+
+first-pieces : (m j k : ℕ) (s : List ℕ) → length (take (368 * m) s) ≤ j → length s ≤ k → piecesIn j (take (368 * m) s) ≡ take m (piecesIn k s)
+first-pieces zero j k s p q = pieces-nil j
+first-pieces (suc m) j k [] p q =
+    ap (piecesIn j) (take-nil {A = ℕ} (368 * suc m)) ∙ pieces-nil j ∙ ap (take (suc m)) (sym (pieces-nil k))
+first-pieces (suc m) zero k (x ∷ s) p q = absurd (omega (arith, length-take (368 * suc m) (x ∷ s)))
+first-pieces (suc m) (suc j) zero (x ∷ s) p q = absurd (omega arith)
+first-pieces (suc m) (suc j) (suc k) (x ∷ s) p q =
+    let t = take (368 * suc m) (x ∷ s) in
+    let lt = length-take (368 * suc m) (x ∷ s) in
+    let d : drop 368 t ≡ take (368 * m) (drop 368 (x ∷ s)) = drop-take 368 (368 * m) (368 * suc m) (x ∷ s) (omega arith) in
+    let ld = length-drop 368 t in
+    let le : length (drop 368 t) ≡ length (take (368 * m) (drop 368 (x ∷ s))) = ap length d in
+    let ls = length-drop 368 (x ∷ s) in
+    let h : take 368 t ≡ take 368 (x ∷ s) = take-take 368 (368 * suc m) (x ∷ s) (omega arith) in
+    let r = first-pieces m j k (drop 368 (x ∷ s)) (omega arith) (omega arith) in
+    pieces-on j t (omega arith) ∙ (λ i. h i ∷ piecesIn j (d i)) ∙ ap (λ (ps : List (List ℕ)). take 368 (x ∷ s) ∷ ps) r
+    ∙ ap (take (suc m)) (sym (pieces-on k (x ∷ s) (omega arith)))
+
+-- ---- a full judge refuses
+
+full-by : (form : ℕ) (b : Bool) → eqb form 0 ≡ b → eqb (cond b 6 form) 0 ≡ false
+full-by form true e = refl
+full-by form false e = e
+
+full-refuses : (c n : ℕ) (p : List ℕ) → n ≡ c → eqb (refusalAfter c n p) 0 ≡ false
+full-refuses c n p e = ap (λ (b : Bool). eqb (orFullBy (refusalOf p) b) 0) (eq-eqb n c e) ∙ full-by (refusalOf p) (eqb (refusalOf p) 0) refl
+
+-- after n records k more can be taken, and one further piece tells the refusal
+sound-enough : (c n k : ℕ) (ps : List (List ℕ)) → n + k ≡ c → soundIn c n (take (suc k) ps) ≡ soundIn c n ps
+unfolding soundIn
+sound-enough c n k [] e = refl
+sound-enough c n zero (p ∷ ps) e =
+    let f : eqb (refusalAfter c n p) 0 ≡ false = full-refuses c n p (omega arith) in
+    ap (λ (b : Bool). cond b (p ∷ []) []) f ∙ sym (ap (λ (b : Bool). cond b (p ∷ soundIn c (n + 1) ps) []) f)
+sound-enough c n (suc k) (p ∷ ps) e =
+    ap (λ (qs : List (List ℕ)). cond (eqb (refusalAfter c n p) 0) (p ∷ qs) []) (sound-enough c (n + 1) k ps (omega arith))
+
+refusal-enough : (c n k : ℕ) (ps : List (List ℕ)) → n + k ≡ c → refusalIn c n (take (suc k) ps) ≡ refusalIn c n ps
+unfolding refusalIn
+refusal-enough c n k [] e = refl
+refusal-enough c n zero (p ∷ ps) e =
+    let f : eqb (refusalAfter c n p) 0 ≡ false = full-refuses c n p (omega arith) in
+    ap (λ (b : Bool). cond b 0 (refusalAfter c n p)) f ∙ sym (ap (λ (b : Bool). cond b (refusalIn c (n + 1) ps) (refusalAfter c n p)) f)
+refusal-enough c n (suc k) (p ∷ ps) e =
+    ap (λ (f : ℕ). cond (eqb (refusalAfter c n p) 0) f (refusalAfter c n p)) (refusal-enough c (n + 1) k ps (omega arith))
+
+-- THE FIRST 97 RECORDS of an input say what the whole says
+module _ (input : List ℕ) where
+  first-97 : pieces (take (368 * 97) input) ≡ take 97 (pieces input)
+  unfolding pieces
+  first-97 = first-pieces 97 (length (take (368 * 97) input)) (length input) input (omega arith) (omega arith)
+
+  pub same-pieces : soundPieces 96 (take (368 * 97) input) ≡ soundPieces 96 input
+  unfolding soundPieces
+  same-pieces = ap (soundIn 96 0) first-97 ∙ sound-enough 96 0 96 (pieces input) refl
+
+  pub same-refusal : firstRefusal 96 (take (368 * 97) input) ≡ firstRefusal 96 input
+  unfolding firstRefusal
+  same-refusal = ap (refusalIn 96 0) first-97 ∙ refusal-enough 96 0 96 (pieces input) refl
+
+  pub same-records : recordsTaken 96 (take (368 * 97) input) ≡ recordsTaken 96 input
+  unfolding recordsTaken
+  same-records = ap (λ (ps : List (List ℕ)). recordsIn ps []) same-pieces

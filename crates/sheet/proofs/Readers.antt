@@ -1,0 +1,122 @@
+-- The theorem for readers: what the printed bytes say of the bytes on standard input. Assumes nothing.
+use mathlib.Core.Path.{_≡_, refl, sym, ap, _∙_, subst}
+use mathlib.Core.Bool.{Bool, true, false, cond}
+use mathlib.Core.List.{List, [], _∷_}
+use mathlib.Core.Logic.{_⊎_, inl, inr}
+use Prim.Native.Nat.{ℕ, _+_, _*_, _≤_}
+use native.Mathlib.Omega.{arith}
+use lib.ListN.{length, take, getD}
+use lib.Dec.{eqb}
+use borrow.Author.Tests.{eqb-true}
+use Rattle.rules.specs.declared.Case.{Case}
+use Rattle.rules.specs.declared.Case.the-variants.{Clear, Fault}
+use Rattle.rules.specs.declared.Evidence.{Evidence}
+use Rattle.rules.specs.declared.Report.{Report}
+use Rattle.rules.specs.declared.Verdict.{Verdict}
+use Rattle.rules.specs.declared.Verdict.the-variants.{Pass, Faulted}
+use Rattle.rules.specs.Cases.{isFault}
+use Rattle.rules.specs.History.{History}
+use Rattle.rules.specs.RightHalf.{halfAt}
+use Rattle.rules.specs.Reports.{passed, Arises, atLast, Right, reportOf}
+use Rattle.rules.proofs.Reports.{reportOf-none, reportOf-clear, reportOf-pass, arises-right}
+use Rattle.judge.specs.States.{refusalNumber, reportsOf}
+use Rattle.judge.specs.Openings.{Fits}
+use Rattle.judge.specs.Words.{Indexed}
+use Rattle.judge.specs.Runs.{Demand3, stateOf}
+use Rattle.judge.proofs.Pieces.{whole-trace}
+use Rattle.sheet_text.specs.Sheets.{text, passLine, lineOf, line, lastLine, lineAt, sheetSize}
+use Rattle.sheet_text.proofs.Lines.{last-none}
+use Rattle.sheet_text.proofs.Printed.{printed-front}
+use Rattle.sheet_text.proofs.ReadBack.{line-pass-only, line-fault-only, last-same}
+use Rattle.sheet_text.proofs.Cuts.{nine, sheet-line}
+use Rattle.sheet.specs.Printing.{sheetOf, Prints}
+use Rattle.sheet.specs.Readers.{readOf, taken, count, refusal, FaultLine, LineSays, LastSays, SheetSays}
+use Rattle.sheet.proofs.Enough.{same-pieces, same-refusal, same-records}
+
+-- ---- a check's line
+
+-- a report without a fault is the report of a pass, with no position and no evidence
+clear-of : (c : Case) → isFault c ≡ false → c ≡ Clear
+clear-of Clear e = refl
+clear-of (Fault kind d) e = let z : _≡_ {A = ℕ} 0 1 = cc in absurd (omega arith)
+
+pass-whole : (f : History → Case) (h : History) → reportOf f h .verdict ≡ Pass → reportOf f h ≡ passed
+pass-whole f [] e = reportOf-none f
+pass-whole f (x ∷ h) e =
+    let w = reportOf-pass f x h e in
+    reportOf-clear f x h (pass-whole f h (w .0)) (clear-of (f (x ∷ h)) (w .1))
+
+one-line : (name : List ℕ) (v : Verdict) (at : ℕ) (e : Evidence) → (lineOf name v at e ≡ passLine name) ⊎ FaultLine name (lineOf name v at e)
+one-line name Pass at e = inl refl
+one-line name (Faulted kind) at e = inr (record { kind = kind; at = at; evidence = e; is = refl })
+
+-- the line of a right report says what the report says
+line-says : {has : History → Type 0} {caseAt : History → Case} {h : History} (name : List ℕ) (r : Report) → r ≡ reportOf caseAt h → Right has caseAt h r
+    → LineSays has caseAt h name (line name r)
+line-says {has} {caseAt} {h} name r e right = record {
+  pass-only = λ q. right .pass-only (e ∙ pass-whole caseAt h (ap (λ (s : Report). s .verdict) (sym e) ∙ line-pass-only name r q));
+  pass-if = λ none. ap (line name) (right .pass-if none);
+  fault-only = λ kind n d q. right .fault-only n kind d (line-fault-only name r kind n d q);
+  fault-if = λ kind n d a. ap (line name) (right .fault-if n kind d a);
+  one-of-them = one-line name (r .verdict) (r .at) (r .evidence);
+}
+
+said : {has : History → Type 0} {caseAt : History → Case} {h : History} (name : List ℕ) {bytes : List ℕ} (r : Report) → line name r ≡ bytes
+    → r ≡ reportOf caseAt h → Right has caseAt h r → LineSays has caseAt h name bytes
+said {has} {caseAt} {h} name r q e right = subst (LineSays has caseAt h name) q (line-says name r e right)
+
+-- ---- the last line
+
+last-by : (n f : ℕ) (b : Bool) → eqb f 0 ≡ b → lastLine n f (cond b n (n + 1)) ≡ lastLine n f (n + 1)
+last-by n f true e = last-none n f n (n + 1) (eqb-true f 0 e)
+last-by n f false e = refl
+
+last-says : (input : List ℕ) (n f a : ℕ) → n ≡ count input → f ≡ refusal input → a ≡ cond (eqb (refusal input) 0) (count input) (count input + 1)
+    → LastSays input (lastLine n f a)
+last-says input n f a p q s =
+    let z : lastLine n f a ≡ lastLine (count input) (refusal input) (count input + 1) =
+    (λ i. lastLine (p i) (q i) (s i)) ∙ last-by (count input) (refusal input) (eqb (refusal input) 0) refl in
+    record {
+      is = z;
+      only = λ m g b e. last-same m (count input) g (refusal input) b (count input + 1) (sym e ∙ z);
+    }
+
+-- ---- the sheet
+
+fits : {logs words : ℕ} → logs ≡ 368 * 96 → words ≡ 32 * 96 → Fits logs words 96
+fits e f = record { some = omega arith; most = omega arith; log = e; work = f }
+
+-- A PRINTED SHEET: where a buffer that holds every sheet has the sheet of what was read of an input at its front, these bytes,
+-- which the program prints, say of the whole input what `SheetSays` lists
+pub printed-sheet : (input : List ℕ) {out out′ : List ℕ} {r : ℕ} → sheetSize ≤ length out → Prints (readOf input) out out′ r
+    → SheetSays input (take r out′)
+unfolding sheetOf reportsOf
+printed-sheet input {out} {out′} {r} l p =
+    let t = p .traced in
+    let w = whole-trace 0 96 (p .log) (p .work) (readOf input) t (p .log′) (p .work′) (fits (p .log-size) (p .work-size)) (p .judged) in
+    let h = taken input in
+    let rs = t .judge .reports in
+    let d : Demand3 Indexed 0 h (stateOf (t .judge) (p .log′) (p .work′)) =
+    subst (λ (g : History). Demand3 Indexed 0 g (stateOf (t .judge) (p .log′) (p .work′))) (same-records input) (w .demand3) in
+    let report : (k : ℕ) → getD rs k passed ≡ getD (reportsOf 0 h) k passed =
+    λ k. ap (λ (s : List Report). getD s k passed) (w .demand2 .reports ∙ ap (reportsOf 0) (same-records input)) in
+    let same : take r out′ ≡ sheetOf t = printed-front (sheetOf t) out l (p .size) (p .is) in
+    let at : (k : ℕ) → getD (nine rs (lastLine (t .judge .count) (refusalNumber (t .refusal)) (t .at))) k [] ≡ lineAt k (take r out′) =
+    λ k. sym (ap (lineAt k) same ∙ sheet-line rs (t .judge .count) (refusalNumber (t .refusal)) (t .at) k) in
+    let n : count (readOf input) ≡ count input = ap (λ (ps : List (List ℕ)). length ps) (same-pieces input) in
+    let f : refusal (readOf input) ≡ refusal input = same-refusal input in
+    let place : t .at ≡ cond (eqb (refusal input) 0) (count input) (count input + 1) = w .at ∙ (λ i. cond (eqb (f i) 0) (n i) (n i + 1)) in
+    let half : Right (Arises halfAt) (atLast halfAt) h (getD rs 4 passed) =
+    subst (Right (Arises halfAt) (atLast halfAt) h) (sym (report 4)) (arises-right halfAt h) in
+    record {
+      agreement-line = said (text "agreement") (getD rs 0 passed) (at 0) (report 0) (d .agreement .right);
+      overlap-line = said (text "overlap") (getD rs 1 passed) (at 1) (report 1) (d .overlap .right);
+      install-line = said (text "install") (getD rs 2 passed) (at 2) (report 2) (d .install .right);
+      twice-line = said (text "twice") (getD rs 3 passed) (at 3) (report 3) (d .twice .right);
+      half-line = said (text "half") (getD rs 4 passed) (at 4) (report 4) half;
+      generations-line = said (text "generations") (getD rs 5 passed) (at 5) (report 5) (d .generations .right);
+      ids-line = said (text "ids") (getD rs 6 passed) (at 6) (report 6) (d .ids .right);
+      meta-line = said (text "meta") (getD rs 7 passed) (at 7) (report 7) (d .meta .right);
+      last-line = subst (LastSays input) (at 8) (last-says input (t .judge .count) (refusalNumber (t .refusal)) (t .at) (w .count ∙ n) (w .refusal ∙ f) place);
+      end = sym (at 9);
+    }
