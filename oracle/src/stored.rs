@@ -95,7 +95,7 @@ fn check_reports(
     let mut expected = Reports::default();
     for (place, record) in records.chunks(RECORD).enumerate() {
         let refusal = judge.take(record);
-        let changed = bytes.one();
+        let changed = bytes.two();
         for (check, report) in expected.iter_mut().enumerate() {
             if changed & (1 << check) != 0 {
                 *report = bytes.report();

@@ -17,16 +17,17 @@ fn report_bytes(report: &Report) -> Vec<u8> {
     out
 }
 
-/// One bit for each check whose report changed, then those reports.
+/// Two bytes with a bit for each check whose report changed, then those reports.
 fn change_bytes(before: &Reports, after: &Reports) -> Vec<u8> {
-    let mut out = vec![0];
+    let mut changed = 0u16;
+    let mut reports = Vec::new();
     for (check, (before, after)) in before.iter().zip(after).enumerate() {
         if before != after {
-            out[0] |= 1 << check;
-            out.extend(report_bytes(after));
+            changed |= 1 << check;
+            reports.extend(report_bytes(after));
         }
     }
-    out
+    [changed.to_le_bytes().to_vec(), reports].concat()
 }
 
 fn question_bytes(question: Question, answer: &[u64]) -> Vec<u8> {

@@ -1,4 +1,4 @@
-// The traces of `traces.bin`: the records are pushed, and after each the eight reports are held to the stored ones.
+// The traces of `traces.bin`: the records are pushed, and after each the reports are held to the stored ones.
 use crate::ask::all_asked;
 use crate::read;
 use crate::refusal::is_length;
@@ -12,7 +12,10 @@ use judge::host::push_into;
 use judge::push::Pushed;
 use judge::state::Judge;
 use record::number::u64_at;
+use rows::pass;
+use rules::CHECKS;
 use rules::Evidence;
+use rules::Opening;
 use rules::Report;
 use rules::Verdict;
 ghost use Rattle.judge.specs.Runs.{PushedBy};
@@ -29,7 +32,7 @@ struct ReadReport {
 }
 
 struct ReadReports {
-    reports: [Report; 8],
+    reports: [Report; CHECKS],
     there: bool,
 }
 
@@ -42,7 +45,7 @@ struct Taken {
 // A trace up to some record: the judge, the stored reports, and whether everything came out as stored.
 struct Run {
     judge: Judge,
-    reports: [Report; 8],
+    reports: [Report; CHECKS],
     right: bool,
 }
 
@@ -94,13 +97,13 @@ fn next_report(fd: i32, old: Report, changed: bool) -> ReadReport {
 }
 
 // The reports after a record: a bit for each that changed, and those.
-fn next_reports(fd: i32, old: [Report; 8]) -> ReadReports {
-    let bits = read::one(fd);
+fn next_reports(fd: i32, old: [Report; CHECKS]) -> ReadReports {
+    let bits = read::two(fd);
     let mut reports = old;
     let mut there = bits.there;
     let mut rest = bits.value;
     let mut k = 0usize;
-    while k < 8 {
+    while k < CHECKS {
         let r = next_report(fd, reports[k], rest % 2 == 1);
         let report = r.report;
         reports[k] = report;
@@ -111,21 +114,6 @@ fn next_reports(fd: i32, old: [Report; 8]) -> ReadReports {
     ReadReports {
         reports: reports,
         there: there,
-    }
-}
-
-// A report that is a pass, as every check's is before the first record.
-fn pass() -> Report {
-    Report {
-        verdict: Verdict::Pass,
-        at: 0,
-        evidence: Evidence {
-            e0: 0,
-            e1: 0,
-            e2: 0,
-            e3: 0,
-            e4: 0,
-        },
     }
 }
 
@@ -151,7 +139,7 @@ fn is_same(a: Report, b: Report) -> bool {
         & is_same_evidence(evidence_a, evidence_b)
 }
 
-// Whether a judge's report with a number from 1 to 8 is the one given.
+// Whether a judge's report with a number from 1 on is the one given.
 fn has_report(judge: Judge, k: usize, report: Report) -> bool {
     let reported = judge.report(k);
     let refusal = reported.refusal;
@@ -160,10 +148,10 @@ fn has_report(judge: Judge, k: usize, report: Report) -> bool {
 }
 
 // Whether a judge's reports are those given.
-fn has_reports(judge: Judge, reports: [Report; 8]) -> bool {
+fn has_reports(judge: Judge, reports: [Report; CHECKS]) -> bool {
     let mut same = true;
     let mut k = 0usize;
-    while k < 8 {
+    while k < CHECKS {
         same = same & has_report(judge, k + 1, reports[k]);
         k += 1;
     }
@@ -220,7 +208,7 @@ fn after_record(fd: i32, run: Run, log: &mut [u8], work: &mut [u64], rec: &[u8])
 // All records of a trace, from a judge that has taken none and whose reports are passes.
 fn after_records(fd: i32, judge: Judge, log: &mut [u8], work: &mut [u64], records: &[u8]) -> Run {
     let p = pass();
-    let passes = [p; 8];
+    let passes = [p; CHECKS];
     let mut run = Run {
         judge: judge,
         reports: passes,
@@ -240,7 +228,8 @@ fn after_records(fd: i32, judge: Judge, log: &mut [u8], work: &mut [u64], record
 fn played(fd: i32, tenant: u64, records: &[u8]) -> Outcome {
     let mut log = [0u8; 5152];
     let mut work = [0u64; 448];
-    let opened = Judge::open(tenant, &log, &mut work);
+    let opening = Opening { tenant: tenant };
+    let opened = Judge::open(opening, &log, &mut work);
     let refusal = opened.refusal;
     let judge = opened.judge;
     let run = after_records(fd, judge, &mut log, &mut work, records);

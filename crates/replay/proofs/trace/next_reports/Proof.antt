@@ -10,8 +10,8 @@ Inv-loop fd reports₀ there₀ rest₀ k₀ reports there rest k = k ≤ 8
 abbrev μ-loop : tie.MeasureT-loop
 μ-loop fd reports₀ there₀ rest₀ k₀ reports there rest k = 8 - k
 
-one-requires : tie.Need-one-requires Inv-loop μ-loop
-one-requires c κs = search needs
+two-requires : tie.Need-two-requires Inv-loop μ-loop
+two-requires c κs = search needs
 
 loop-holds : tie.Need-loop-holds Inv-loop μ-loop
 loop-holds c = search needs
@@ -49,7 +49,7 @@ next-reports-spec =
     (tie.spec
     Inv-loop
     μ-loop
-    one-requires
+    two-requires
     loop-holds
     mul-next-report
     array-copy-out-next-report
