@@ -1,4 +1,4 @@
--- The proof of the one function that calls itself: the measure is the number, of which its tenth part is smaller.
+-- `append_number`, the one function that calls itself: the measure is the number, of which its tenth part is smaller.
 use native.Mathlib.Omega.{arith}
 use Rattle.sheet_text.proofs.Appends.{appended-length}
 use Rattle.sheet_text.proofs.Numbers.{small-length, large-length, appended-digit, appended-last}
