@@ -95,9 +95,9 @@ module _ (j : Judge) (log work rows bytes : List ℕ) {log′ work′ rows′ : 
 
 module _ (j : Judge) (log work rows bytes : List ℕ) {r : ℕ} {log′ work′ rows′ : List ℕ} (are : RowsOf j rows)
     (t : TakesIn (j .opening) (j .capacity) (j .count) log work rows bytes r log′ work′ rows′) where
-  number-is : r ≡ pushRefusal (stateOf j log work) bytes
+  pub push-number : r ≡ pushRefusal (stateOf j log work) bytes
   unfolding pushRefusal
-  number-is = t .refusal
+  push-number = t .refusal
 
   has-room : r ≡ 0 → Room (j .capacity) (j .count) log work bytes
   has-room z = room-of (sym (t .refusal) ∙ z)
@@ -105,7 +105,7 @@ module _ (j : Judge) (log work rows bytes : List ℕ) {r : ℕ} {log′ work′ 
   -- a push that takes its record
   pub push-taken : r ≡ 0 → Pushed Indexed (stateOf j log work) bytes (stateOf (judgeBy (j .opening) (j .capacity) (j .count + 1) rows′) log′ work′)
   push-taken z = record {
-    refused = λ q. never (ap (λ (n : ℕ). eqb n 0) (sym number-is ∙ z)) q;
+    refused = λ q. never (ap (λ (n : ℕ). eqb n 0) (sym push-number ∙ z)) q;
     taken = λ q. took j log work rows bytes are (has-room z) (t .taken z);
   }
 
@@ -115,7 +115,7 @@ module _ (j : Judge) (log work rows bytes : List ℕ) {r : ℕ} {log′ work′ 
       let e = t .refused n in
       record {
         refused = λ q. λ i. stateOf j (e .0 i) (e .1 i);
-        taken = λ q. never q (ap (λ (m : ℕ). eqb m 0) (sym number-is) ∙ ne-eqb r 0 n);
+        taken = λ q. never q (ap (λ (m : ℕ). eqb m 0) (sym push-number) ∙ ne-eqb r 0 n);
       }
 
 -- the rows of a judge that is read from them

@@ -18,7 +18,7 @@ returns : tie.Need-returns
 returns c =
     let u = c .before .before .before in
     let a = u .before .before .before .before .args in
-    asked-refused (a .tenant) (length (a .log .now)) (a .work .now) (u .before .fresh .ensures) (u .suits .ensures) (c .before .if1 .taken) (c .fresh2 .ensures)
+    asked-refused (a .opening) (length (a .log .now)) (a .work .now) (u .before .fresh .ensures) (u .suits .ensures) (c .before .if1 .taken) (c .fresh2 .ensures)
 
 clear-requires : tie.Need-clear-requires
 clear-requires c κs = search needs
@@ -31,7 +31,7 @@ returns-2 c =
     let t = c .before .before .before .before .before in
     let u = t .before .before in
     let a = u .before .before .before .before .args in
-    asked-opened (a .tenant) (length (a .log .now)) (a .work .now) (u .before .fresh .ensures) (u .suits .ensures) (t .if1 .left)
+    asked-opened (a .opening) (length (a .log .now)) (a .work .now) (u .before .fresh .ensures) (u .suits .ensures) (t .if1 .left)
     (c .before .before .clear .ensures)
 
 pub open-spec : {M : Type 1} → statement M

@@ -1,0 +1,191 @@
+-- `feed`: whatever the rest of the trace comes to from here, the whole comes to from the start; each record goes one on, or ends it.
+use mathlib.Core.Path.{_≡_, refl, _∙_, subst}
+use Prim.Native.Nat.{ℕ, _≤_, _<_, _+_, _-_}
+use native.Mathlib.Omega.{arith}
+use lib.ListN.{length, take, drop, length-drop}
+use mathlib.Core.List.{List}
+use borrow.Author.Needs.{needs}
+use Rattle.rules.specs.declared.Opening.{Opening}
+use Rattle.rows.specs.Rows.{KindsFit}
+use Rattle.intake.proofs.Decisions.{push-few}
+use Rattle.judge.specs.States.{State}
+use Rattle.judge.specs.Runs.{stateOf}
+use Rattle.judge.specs.Traces.{Feeds, ends, judgeBy}
+use Rattle.judge.proofs.Traces.{record-part, record-rest, feeds-on, feeds-off}
+use Rattle.judge.proofs.trace.feed.Statement.{statement}
+use Rattle.judge.proofs.trace.feed.Tie as tie
+
+abbrev Inv-loop : tie.InvT-loop
+Inv-loop log₀ work₀ rows₀ cap tenant trace at₀ n₀ log work rows at n =
+    (at ≤ length trace) × (n ≤ at) × (length log ≡ length log₀) × (length work ≡ length work₀) × (length rows ≡ length rows₀)
+    × (KindsFit rows₀ 0 → KindsFit rows 0)
+    × ((f a : ℕ) (t : State) → Feeds (stateOf (judgeBy (record { tenant = tenant }) cap n rows) log work) (drop at trace) n f a t
+    → Feeds (stateOf (judgeBy (record { tenant = tenant }) cap 0 rows₀) log₀ work₀) trace 0 f a t)
+
+abbrev μ-loop : tie.MeasureT-loop
+μ-loop log₀ work₀ rows₀ cap tenant trace at₀ n₀ log work rows at n = length trace - at
+
+-- where a record has been taken or refused: what the rest of the trace comes to
+module _ (c : tie.After-take Inv-loop μ-loop) where
+  abbrev l : tie.At-loop Inv-loop μ-loop
+  l = c .before .before .before .before .before .before .before 
+
+  abbrev s : tie.Start Inv-loop μ-loop
+  s = l .before .before .before .before .before 
+
+  abbrev o : Opening
+  o = record { tenant = s .args .tenant }
+
+  abbrev trace : List ℕ
+  trace = s .args .trace .now
+
+  abbrev end : ℕ
+  end = c .before .before .before .before .before .record-end .result
+
+  abbrev first : State
+  first = stateOf (judgeBy o (s .args .cap) 0 (s .args .rows .now)) (s .args .log .now) (s .args .work .now)
+
+  abbrev log′ : List ℕ
+  log′ = c .take .last .0
+
+  abbrev work′ : List ℕ
+  work′ = c .take .last .1 .0
+
+  abbrev rows′ : List ℕ
+  rows′ = c .take .last .1 .1 .0
+
+  size : length (l .loop .rows) ≡ 56
+  size = l .loop .inv .4 ∙ s .pre
+
+  some : 0 < length (drop (l .loop .at) trace)
+  some =
+      let x : l .loop .at < length trace = c .before .before .before .before .before .before .loop-test .taken in
+      rw (length-drop (l .loop .at) trace) (omega arith)
+
+  part : take (end - l .loop .at) (drop (l .loop .at) trace) ≡ take 368 (drop (l .loop .at) trace)
+  part = record-part trace (l .loop .at) end (c .before .before .before .before .before .record-end .ensures)
+
+  on : c .take .result ≡ 0 → (f a : ℕ) (t : State)
+      → Feeds (stateOf (judgeBy o (s .args .cap) (l .loop .n + 1) rows′) log′ work′) (drop end trace) (l .loop .n + 1) f a t → Feeds first trace 0 f a t
+  on q f a t w =
+      let there = stateOf (judgeBy o (s .args .cap) (l .loop .n + 1) rows′) log′ work′ in
+      let e : drop end trace ≡ drop 368 (drop (l .loop .at) trace) = record-rest trace (l .loop .at) end (c .before .before .before .before .before .record-end .ensures) in
+      l .loop .inv .6 f a t
+      (feeds-on o (s .args .cap) (l .loop .n) (l .loop .log) (l .loop .work) (l .loop .rows) (drop (l .loop .at) trace) some part size (c .take .ensures) q
+      (subst (λ (r : List ℕ). Feeds there r (l .loop .n + 1) f a t) e w))
+
+  off : (c .take .result ≡ 0 → ⊥)
+      → Feeds first trace 0 (c .take .result) (l .loop .n + 1) (stateOf (judgeBy o (s .args .cap) (l .loop .n) rows′) log′ work′)
+  off q =
+      l .loop .inv .6 _ _ _
+      (feeds-off o (s .args .cap) (l .loop .n) (l .loop .log) (l .loop .work) (l .loop .rows) (drop (l .loop .at) trace) some part size (c .take .ensures) q)
+
+  few : c .take .result ≤ 6
+  few =
+      let e = c .take .ensures .refusal in
+      let f = push-few (s .args .cap) (l .loop .n) (length (l .loop .log)) (length (l .loop .work)) (take (end - l .loop .at) (drop (l .loop .at) trace)) in
+      omega arith
+
+loop-holds : tie.Need-loop-holds Inv-loop μ-loop
+loop-holds c = (omega arith, omega arith, refl, refl, refl, λ f. f, λ f a t w. w)
+
+record-end-requires : tie.Need-record-end-requires Inv-loop μ-loop
+record-end-requires c κs = search needs
+
+sub-take : tie.Need-sub-take Inv-loop μ-loop
+sub-take c = search needs
+
+part-take-start : tie.Need-part-take-start Inv-loop μ-loop
+part-take-start c = search needs
+
+part-take-end : tie.Need-part-take-end Inv-loop μ-loop
+part-take-end c = search needs
+
+take-requires : tie.Need-take-requires Inv-loop μ-loop
+take-requires c κs = c .before .before .before .before .before .before .loop .inv .4 ∙ c .before .before .before .before .before .before .before .before .before .before .before .pre
+
+add-t22 : tie.Need-add-t22 Inv-loop μ-loop
+add-t22 c = search needs
+
+same-length : tie.Need-same-length Inv-loop μ-loop
+same-length c = let t = c .before .before .before .before .before .before .before in t .take .kept .0 ∙ l t .loop .inv .2
+
+same-length-2 : tie.Need-same-length-2 Inv-loop μ-loop
+same-length-2 c = let t = c .before .before .before .before .before .before .before in t .take .kept .1 .0 ∙ l t .loop .inv .3
+
+same-length-3 : tie.Need-same-length-3 Inv-loop μ-loop
+same-length-3 c = let t = c .before .before .before .before .before .before .before in t .take .kept .1 .1 .0 ∙ l t .loop .inv .4
+
+returns : tie.Need-returns Inv-loop μ-loop
+returns c =
+    let t = c .before .before .before .before .before .before .before in
+    record {
+      feeds = off t (c .if1 .taken);
+      size = t .take .ensures .size ∙ l t .loop .inv .4;
+      fits = λ f. t .take .ensures .fits (l t .loop .inv .5 f);
+      few = few t;
+    }
+
+add-n : tie.Need-add-n Inv-loop μ-loop
+add-n c = search needs
+
+loop-less : tie.Need-loop-less Inv-loop μ-loop
+loop-less c = search needs
+
+loop-again : tie.Need-loop-again Inv-loop μ-loop
+loop-again c =
+    let t = c .before .before .before .before .before .before .before in
+    let i = l t .loop .inv in
+    let e = t .before .before .before .before .before .record-end .ensures in
+    let a = e .0 in
+    let b = e .1 in
+    let n = i .1 in (
+      omega arith,
+      omega arith,
+      t .take .kept .0 ∙ i .2,
+      t .take .kept .1 .0 ∙ i .3,
+      t .take .ensures .size ∙ i .4,
+      λ f. t .take .ensures .fits (i .5 f),
+      on t (c .if1 .left),
+    )
+
+same-length-4 : tie.Need-same-length-4 Inv-loop μ-loop
+same-length-4 c = search needs
+
+same-length-5 : tie.Need-same-length-5 Inv-loop μ-loop
+same-length-5 c = search needs
+
+same-length-6 : tie.Need-same-length-6 Inv-loop μ-loop
+same-length-6 c = search needs
+
+returns-2 : tie.Need-returns-2 Inv-loop μ-loop
+returns-2 c =
+    let m = c .before .loop in
+    let a = c .before .before .before .before .before .before .args in
+    let z : length (drop (m .at) (a .trace .now)) ≡ 0 = length-drop (m .at) (a .trace .now) ∙ omega arith in
+    record { feeds = m .inv .6 _ _ _ (ends z); size = m .inv .4; fits = m .inv .5; few = omega arith }
+
+pub feed-spec : {M : Type 1} → statement M
+feed-spec =
+    tie.close
+    (tie.spec
+    Inv-loop
+    μ-loop
+    loop-holds
+    record-end-requires
+    sub-take
+    part-take-start
+    part-take-end
+    take-requires
+    add-t22
+    same-length
+    same-length-2
+    same-length-3
+    returns
+    add-n
+    loop-less
+    loop-again
+    same-length-4
+    same-length-5
+    same-length-6
+    returns-2)
