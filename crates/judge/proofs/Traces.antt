@@ -78,13 +78,14 @@ zeros-fit = record { kind = λ k l. let e = getD-replicate {A = ℕ} 56 (0 + 7 *
 -- an opening that is not refused, and what the trace comes to from there; or one that is
 module _ (n : Opening) (log work trace : List ℕ) (o : Opened) {work₁ : List ℕ} (p : Opens n (length log) work o work₁) where
   pub traced-on : {log′ work′ : List ℕ} (r : Traced) → o .refusal ≡ Nothing
-      → Feeds (stateOf (o .judge) log work₁) trace 0 (refusalNumber (r .refusal)) (r .at) (stateOf (r .judge) log′ work′)
+      → Feeds (stateOf (judgeBy (o .judge .opening) (o .judge .capacity) 0 (replicate 56 0)) log work₁) trace 0 (refusalNumber (r .refusal)) (r .at) (stateOf (r .judge) log′ work′)
       → TracedBy n log work trace r log′ work′
   traced-on {log′} {work′} r e w = record {
     refused = λ none. let x = p .refused none .0 in let y = ap refusalNumber e in absurd (omega arith);
     opened = λ c f.
         let q = p .opened c f in
-        subst (λ (s : State). Feeds s trace 0 (refusalNumber (r .refusal)) (r .at) (stateOf (r .judge) log′ work′)) (λ i. stateOf (q .1 i) log (q .2 i)) w;
+        let j = ap (λ (j : Judge). judgeBy (j .opening) (j .capacity) 0 (replicate 56 0)) (q .1) ∙ fresh-rows c n in
+        subst (λ (s : State). Feeds s trace 0 (refusalNumber (r .refusal)) (r .at) (stateOf (r .judge) log′ work′)) (λ i. stateOf (j i) log (q .2 i)) w;
   }
 
   pub traced-off : eqb (refusalNumber (o .refusal)) 0 ≡ false

@@ -48,16 +48,16 @@ pub report-read : (words : List ℕ) (at : ℕ) {v : Verdict} → v ≡ verdictI
     }) (reportIn words at)
 unfolding reportIn
 report-read words at e = λ i. record {
-      verdict = e i;
-      at = getD words (at + 1) 0;
-      evidence = record {
-        e0 = getD words (at + 2) 0;
-        e1 = getD words (at + 3) 0;
-        e2 = getD words (at + 4) 0;
-        e3 = getD words (at + 5) 0;
-        e4 = getD words (at + 6) 0;
-      };
-    }
+  verdict = e i;
+  at = getD words (at + 1) 0;
+  evidence = record {
+    e0 = getD words (at + 2) 0;
+    e1 = getD words (at + 3) 0;
+    e2 = getD words (at + 4) 0;
+    e3 = getD words (at + 5) 0;
+    e4 = getD words (at + 6) 0;
+  };
+}
 
 step : {A : Type 0} (l : List A) (d : A) (i j : ℕ) → j ≡ i + 1 → i < length l → drop i l ≡ getD l i d ∷ drop j l
 step l d i j e h =
@@ -77,7 +77,6 @@ row-read words at h =
     let s5 = step words 0 (at + 5) (at + 6) (omega arith) (omega arith) in
     let s6 = step words 0 (at + 6) (at + 7) (omega arith) (omega arith) in
     rw (k, s0, s1, s2, s3, s4, s5, s6)
-
 
 -- so many words from a place to the end are those of the reports read there
 rows-from : (n : ℕ) (words : List ℕ) (at : ℕ) → at + 7 * n ≡ length words → drop at words ≡ rowsOf (reportsFrom n words at)
@@ -140,7 +139,7 @@ from-back pre (r ∷ rs) a =
     let w : pre ++ (reportWords r ++ rowsOf rs) ≡ (pre ++ reportWords r) ++ rowsOf rs = sym (append-assoc pre (reportWords r) (rowsOf rs)) in
     let n : length pre + 7 ≡ length (pre ++ reportWords r) = sym (length-append pre (reportWords r)) in
     let t : reportsFrom (length rs) (pre ++ (reportWords r ++ rowsOf rs)) (length pre + 7) ≡ rs =
-      (λ i. reportsFrom (length rs) (w i) (n i)) ∙ from-back (pre ++ reportWords r) rs (a .1) in
+    (λ i. reportsFrom (length rs) (w i) (n i)) ∙ from-back (pre ++ reportWords r) rs (a .1) in
     λ i. f i ∷ t i
 
 -- the words of reports read back
@@ -258,8 +257,8 @@ pub fit-rows : (rs : List Report) → length rs ≡ checkCount → ((k : ℕ) �
 fit-rows rs n h =
     record {
       kind = λ k l.
-        let z : 7 * k ≡ 0 + 7 * k = omega arith in
-        subst (λ (m : ℕ). getD (rowsOf rs) m 0 ≤ 255) z (subst (λ (w : ℕ). w ≤ 255) (sym (row-kind rs k (omega arith))) (h k l));
+          let z : 7 * k ≡ 0 + 7 * k = omega arith in
+          subst (λ (m : ℕ). getD (rowsOf rs) m 0 ≤ 255) z (subst (λ (w : ℕ). w ≤ 255) (sym (row-kind rs k (omega arith))) (h k l));
     }
 
 -- a report entered into rows whose kinds are bytes
@@ -270,14 +269,14 @@ enter-fits rows k r n l b f =
     let c : length rs ≡ checkCount = reports-count checkCount rows 0 in
     let read : rows ≡ rowsOf rs = rows-read rows n in
     let put : sets rows (7 * k) (reportWords r) ≡ rowsOf (set rs k r) =
-      ap (λ (w : List ℕ). sets w (7 * k) (reportWords r)) read ∙ rows-set rs k r (omega arith) in
+    ap (λ (w : List ℕ). sets w (7 * k) (reportWords r)) read ∙ rows-set rs k r (omega arith) in
     let word : (j : ℕ) → j < checkCount → kindWord (getD rs j passed .verdict) ≤ 255 = λ j s.
-      let z : 0 + 7 * j ≡ 7 * j = omega arith in
-      let w : getD rows (0 + 7 * j) 0 ≡ kindWord (getD rs j passed .verdict) = (λ i. getD (read i) (z i) 0) ∙ row-kind rs j (omega arith) in
-      subst (λ (x : ℕ). x ≤ 255) w (f .kind j s) in
+    let z : 0 + 7 * j ≡ 7 * j = omega arith in
+    let w : getD rows (0 + 7 * j) 0 ≡ kindWord (getD rs j passed .verdict) = (λ i. getD (read i) (z i) 0) ∙ row-kind rs j (omega arith) in
+    subst (λ (x : ℕ). x ≤ 255) w (f .kind j s) in
     let each : (j : ℕ) → j < checkCount → kindWord (getD (set rs k r) j passed .verdict) ≤ 255 = λ j s. elim (ℕ-discrete j k) [
       | yes q ↦ subst (λ (x : Report). kindWord (x .verdict) ≤ 255)
-        (sym (ap (λ (m : ℕ). getD (set rs k r) m passed) q ∙ getD-set-same rs k r passed (omega arith))) b
+          (sym (ap (λ (m : ℕ). getD (set rs k r) m passed) q ∙ getD-set-same rs k r passed (omega arith))) b
       | no q ↦ subst (λ (x : Report). kindWord (x .verdict) ≤ 255) (sym (getD-set-other rs k j r passed q)) (word j s)
     ] in
     subst (λ (w : List ℕ). KindsFit w 0) (sym put) (fit-rows (set rs k r) (length-set rs k r ∙ c) each)

@@ -189,13 +189,25 @@ CaseKinds c = (o : Opening) (h : History) → KindWithin (c .kinds) (caseAt o c 
 pub case-kinds : Every CaseKinds checks
 case-kinds = (
   λ o. agreement-kinds,
-  (λ o. last-kinds overlapAt overlap-kinds,
-  (λ o. last-kinds (installAt (o .tenant)) (install-kinds (o .tenant)),
-  (λ o. last-kinds twiceAt twice-kinds,
-  (λ o. last-kinds halfAt half-kinds,
-  (λ o. last-kinds generationsAt generations-kinds,
-  (λ o. last-kinds idsAt ids-kinds,
-  (λ o. last-kinds metaAt meta-kinds, tt))))))),
+  (
+    λ o. last-kinds overlapAt overlap-kinds,
+    (
+      λ o. last-kinds (installAt (o .tenant)) (install-kinds (o .tenant)),
+      (
+        λ o. last-kinds twiceAt twice-kinds,
+        (
+          λ o. last-kinds halfAt half-kinds,
+          (
+            λ o. last-kinds generationsAt generations-kinds,
+            (
+              λ o. last-kinds idsAt ids-kinds,
+              (λ o. last-kinds metaAt meta-kinds, tt),
+            ),
+          ),
+        ),
+      ),
+    ),
+  ),
 )
 
 -- ---- so has every report

@@ -155,11 +155,23 @@ half-left o x h e =
 pub unconcerned : Every Unconcerned checks
 unconcerned = (
   agreement-left,
-  (overlap-left,
-  (λ o x h e. unmoved (atLast (installAt (o .tenant))) x h (install-clear x h (o .tenant) (not-in x 8 [] e .0)),
-  (λ o x h e. unmoved (atLast twiceAt) x h (twice-clear x h (not-in x 1 [] e .0)),
-  (half-left,
-  (λ o x h e. unmoved (atLast generationsAt) x h (generations-clear x h (not-in x 3 [] e .0)),
-  (λ o x h e. unmoved (atLast idsAt) x h (ids-clear x h (not-in x 11 [] e .0)),
-  (λ o x h e. unmoved (atLast metaAt) x h (meta-clear x h (not-in x 12 [] e .0)), tt))))))),
+  (
+    overlap-left,
+    (
+      λ o x h e. unmoved (atLast (installAt (o .tenant))) x h (install-clear x h (o .tenant) (not-in x 8 [] e .0)),
+      (
+        λ o x h e. unmoved (atLast twiceAt) x h (twice-clear x h (not-in x 1 [] e .0)),
+        (
+          half-left,
+          (
+            λ o x h e. unmoved (atLast generationsAt) x h (generations-clear x h (not-in x 3 [] e .0)),
+            (
+              λ o x h e. unmoved (atLast idsAt) x h (ids-clear x h (not-in x 11 [] e .0)),
+              (λ o x h e. unmoved (atLast metaAt) x h (meta-clear x h (not-in x 12 [] e .0)), tt),
+            ),
+          ),
+        ),
+      ),
+    ),
+  ),
 )

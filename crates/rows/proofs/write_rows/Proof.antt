@@ -49,8 +49,7 @@ loop-again : tie.Need-loop-again Inv-loop μ-loop
 loop-again c =
     let a = c .before .before .before .before .before .before .before .before .args in
     let l = c .before .before .before .before .before .before .loop in
-    let n : length (a .t3) ≡ 8 = c .before .before .before .before .before .before .before .before .good .1 .1 .0 .1 .0 .1 in
-    (
+    let n : length (a .t3) ≡ 8 = c .before .before .before .before .before .before .before .before .good .1 .1 .0 .1 .0 .1 in (
       omega arith,
       c .before .before .write-report .ensures .0 ∙ rows-more (a .out .now) (l .out) (a .at) (a .t3) (l .k) (omega arith) (l .inv .1),
       λ j m. kinds-more (a .t3) (l .k) (l .inv .2) (c .before .before .write-report .ensures .1) j m,

@@ -28,10 +28,10 @@ abbrev μ-loop : tie.MeasureT-loop
 -- where a record has been taken or refused: what the rest of the trace comes to
 module _ (c : tie.After-take Inv-loop μ-loop) where
   abbrev l : tie.At-loop Inv-loop μ-loop
-  l = c .before .before .before .before .before .before .before 
+  l = c .before .before .before .before .before .before .before
 
   abbrev s : tie.Start Inv-loop μ-loop
-  s = l .before .before .before .before .before 
+  s = l .before .before .before .before .before
 
   abbrev o : Opening
   o = record { tenant = s .args .tenant }

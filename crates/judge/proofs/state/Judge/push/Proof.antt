@@ -45,10 +45,10 @@ module _ (c : tie.After-write-rows) where
 -- where the core has answered
 module _ (c : tie.After-take) where
   abbrev w : tie.After-write-rows
-  w = c .before .before .before .before .before 
+  w = c .before .before .before .before .before
 
   abbrev s : tie.Start
-  s = w .before .before .before .before .before .before .before 
+  s = w .before .before .before .before .before .before .before
 
   few : c .take .result ≤ 6
   few =

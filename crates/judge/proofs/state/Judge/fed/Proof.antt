@@ -1,0 +1,66 @@
+-- `fed`: from rows of zeros the trace comes to rows, which are the judge's reports then.
+use mathlib.Core.Path.{_≡_, sym, subst}
+use mathlib.Core.List.{List}
+use Prim.Native.Nat.{ℕ}
+use native.Mathlib.Omega.{arith}
+use lib.ListN.{length, replicate}
+use borrow.Author.Needs.{needs}
+use Rattle.rules.specs.declared.Report.{Report}
+use Rattle.judge.specs.declared.state.Judge.{Judge}
+use Rattle.judge.specs.States.{refusalNumber}
+use Rattle.judge.specs.Runs.{stateOf}
+use Rattle.judge.specs.Traces.{Feeds, judgeBy}
+use Rattle.judge.proofs.Traces.{zeros-fit}
+use Rattle.judge.proofs.state.Judge.fed.Statement.{statement}
+use Rattle.judge.proofs.state.Judge.fed.Tie as tie
+
+slice-aggregate-feed : tie.Need-slice-aggregate-feed
+slice-aggregate-feed c = search needs
+
+feed-requires : tie.Need-feed-requires
+feed-requires c κs = search needs
+
+slice-aggregate-read-rows : tie.Need-slice-aggregate-read-rows
+slice-aggregate-read-rows c = search needs
+
+read-rows-requires : tie.Need-read-rows-requires
+read-rows-requires c κs =
+    let e = c .before .before .before .before .before .before .feed .ensures in
+    let n = e .size in
+    (omega arith, e .fits zeros-fit)
+
+refusal-of-requires : tie.Need-refusal-of-requires
+refusal-of-requires c κs = c .before .before .before .before .before .before .before .feed .ensures .few
+
+same-length : tie.Need-same-length
+same-length c = search needs
+
+same-length-2 : tie.Need-same-length-2
+same-length-2 c = search needs
+
+returns : tie.Need-returns
+returns c =
+    let f = c .before .before .before .before .before .before .before .before .feed in
+    let j = c .before .before .before .before .before .before .before .before .before .before .before .before .before .before .before .before .args .self in
+    let log = c .before .before .before .before .before .before .before .before .before .before .before .before .before .before .before .before .args .log .now in
+    let work = c .before .before .before .before .before .before .before .before .before .before .before .before .before .before .before .before .args .work .now in
+    let trace = c .before .before .before .before .before .before .before .before .before .before .before .before .before .before .before .before .args .trace .now in
+    let start = stateOf (judgeBy (j .opening) (j .capacity) 0 (replicate 56 0)) log work in
+    let judge : List Report → Judge =
+    λ rs. record { capacity = j .capacity; count = f .result .count; opening = j .opening; reports = rs } in
+    subst (λ (n : ℕ). Feeds start trace 0 n (f .result .at) (stateOf (judge (c .before .read-rows .result)) (f .last .0) (f .last .1 .0))) (sym (c .refusal-of .ensures))
+    (subst (λ (rs : List Report). Feeds start trace 0 (f .result .refusal) (f .result .at) (stateOf (judge rs) (f .last .0) (f .last .1 .0)))
+    (sym (c .before .read-rows .ensures)) (f .ensures .feeds))
+
+pub fed-spec : {M : Type 1} → statement M
+fed-spec =
+    tie.close
+    (tie.spec
+    slice-aggregate-feed
+    feed-requires
+    slice-aggregate-read-rows
+    read-rows-requires
+    refusal-of-requires
+    same-length
+    same-length-2
+    returns)
