@@ -9,8 +9,10 @@ use lib.Seq.{take-nil, take-take}
 use lib.Dec.{eqb}
 use borrow.Author.Tests.{eq-eqb}
 use Rattle.record.specs.Form.{refusalOf}
-use Rattle.judge.specs.States.{orFullBy}
-use Rattle.judge.specs.Pieces.{piecesIn, pieces, refusalAfter, soundIn, refusalIn, soundPieces, firstRefusal, recordsTaken, recordsIn}
+use Rattle.record.specs.Records.{decode}
+use Rattle.rules.specs.History.{History}
+use Rattle.judge.specs.Calls.{refusalAfter}
+use Rattle.judge.specs.Pieces.{piecesIn, pieces, soundIn, refusalIn, soundPieces, firstRefusal, recordsTaken, recordsIn}
 
 -- ---- the pieces of the first so many records are the first so many pieces
 
@@ -58,27 +60,29 @@ full-by : (form : ℕ) (b : Bool) → eqb form 0 ≡ b → eqb (cond b 6 form) 0
 full-by form true e = refl
 full-by form false e = e
 
-full-refuses : (c n : ℕ) (p : List ℕ) → n ≡ c → eqb (refusalAfter c n p) 0 ≡ false
-full-refuses c n p e = ap (λ (b : Bool). eqb (orFullBy (refusalOf p) b) 0) (eq-eqb n c e) ∙ full-by (refusalOf p) (eqb (refusalOf p) 0) refl
+full-refuses : (c : ℕ) (h : History) (p : List ℕ) → length h ≡ c → eqb (refusalAfter c h p) 0 ≡ false
+full-refuses c h p e =
+    ap (λ (b : Bool). eqb (cond (eqb (refusalOf p) 0) (cond b 6 0) (refusalOf p)) 0) (eq-eqb (length h) c e)
+    ∙ full-by (refusalOf p) (eqb (refusalOf p) 0) refl
 
--- after n records k more can be taken, and one further piece tells the refusal
-sound-enough : (c n k : ℕ) (ps : List (List ℕ)) → n + k ≡ c → soundIn c n (take (suc k) ps) ≡ soundIn c n ps
+-- after the records of h k more can be taken, and one further piece tells the refusal
+sound-enough : (c : ℕ) (h : History) (k : ℕ) (ps : List (List ℕ)) → length h + k ≡ c → soundIn c h (take (suc k) ps) ≡ soundIn c h ps
 unfolding soundIn
-sound-enough c n k [] e = refl
-sound-enough c n zero (p ∷ ps) e =
-    let f : eqb (refusalAfter c n p) 0 ≡ false = full-refuses c n p (omega arith) in
-    ap (λ (b : Bool). cond b (p ∷ []) []) f ∙ sym (ap (λ (b : Bool). cond b (p ∷ soundIn c (n + 1) ps) []) f)
-sound-enough c n (suc k) (p ∷ ps) e =
-    ap (λ (qs : List (List ℕ)). cond (eqb (refusalAfter c n p) 0) (p ∷ qs) []) (sound-enough c (n + 1) k ps (omega arith))
+sound-enough c h k [] e = refl
+sound-enough c h zero (p ∷ ps) e =
+    let f : eqb (refusalAfter c h p) 0 ≡ false = full-refuses c h p (omega arith) in
+    ap (λ (b : Bool). cond b (p ∷ []) []) f ∙ sym (ap (λ (b : Bool). cond b (p ∷ soundIn c (decode p ∷ h) ps) []) f)
+sound-enough c h (suc k) (p ∷ ps) e =
+    ap (λ (qs : List (List ℕ)). cond (eqb (refusalAfter c h p) 0) (p ∷ qs) []) (sound-enough c (decode p ∷ h) k ps (omega arith))
 
-refusal-enough : (c n k : ℕ) (ps : List (List ℕ)) → n + k ≡ c → refusalIn c n (take (suc k) ps) ≡ refusalIn c n ps
+refusal-enough : (c : ℕ) (h : History) (k : ℕ) (ps : List (List ℕ)) → length h + k ≡ c → refusalIn c h (take (suc k) ps) ≡ refusalIn c h ps
 unfolding refusalIn
-refusal-enough c n k [] e = refl
-refusal-enough c n zero (p ∷ ps) e =
-    let f : eqb (refusalAfter c n p) 0 ≡ false = full-refuses c n p (omega arith) in
-    ap (λ (b : Bool). cond b 0 (refusalAfter c n p)) f ∙ sym (ap (λ (b : Bool). cond b (refusalIn c (n + 1) ps) (refusalAfter c n p)) f)
-refusal-enough c n (suc k) (p ∷ ps) e =
-    ap (λ (f : ℕ). cond (eqb (refusalAfter c n p) 0) f (refusalAfter c n p)) (refusal-enough c (n + 1) k ps (omega arith))
+refusal-enough c h k [] e = refl
+refusal-enough c h zero (p ∷ ps) e =
+    let f : eqb (refusalAfter c h p) 0 ≡ false = full-refuses c h p (omega arith) in
+    ap (λ (b : Bool). cond b 0 (refusalAfter c h p)) f ∙ sym (ap (λ (b : Bool). cond b (refusalIn c (decode p ∷ h) ps) (refusalAfter c h p)) f)
+refusal-enough c h (suc k) (p ∷ ps) e =
+    ap (λ (f : ℕ). cond (eqb (refusalAfter c h p) 0) f (refusalAfter c h p)) (refusal-enough c (decode p ∷ h) k ps (omega arith))
 
 -- THE FIRST 97 RECORDS of an input say what the whole says
 module _ (input : List ℕ) where
@@ -88,11 +92,11 @@ module _ (input : List ℕ) where
 
   pub same-pieces : soundPieces 96 (take (368 * 97) input) ≡ soundPieces 96 input
   unfolding soundPieces
-  same-pieces = ap (soundIn 96 0) first-97 ∙ sound-enough 96 0 96 (pieces input) refl
+  same-pieces = ap (soundIn 96 []) first-97 ∙ sound-enough 96 [] 96 (pieces input) refl
 
   pub same-refusal : firstRefusal 96 (take (368 * 97) input) ≡ firstRefusal 96 input
   unfolding firstRefusal
-  same-refusal = ap (refusalIn 96 0) first-97 ∙ refusal-enough 96 0 96 (pieces input) refl
+  same-refusal = ap (refusalIn 96 []) first-97 ∙ refusal-enough 96 [] 96 (pieces input) refl
 
   pub same-records : recordsTaken 96 (take (368 * 97) input) ≡ recordsTaken 96 input
   unfolding recordsTaken

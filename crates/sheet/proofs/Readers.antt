@@ -3,7 +3,7 @@ use mathlib.Core.Path.{_≡_, refl, sym, ap, _∙_, subst}
 use mathlib.Core.Bool.{Bool, true, false, cond}
 use mathlib.Core.List.{List, [], _∷_}
 use mathlib.Core.Logic.{_⊎_, inl, inr}
-use Prim.Native.Nat.{ℕ, _+_, _*_, _≤_}
+use Prim.Native.Nat.{ℕ, _+_, _*_, _≤_, _<_}
 use native.Mathlib.Omega.{arith}
 use lib.ListN.{length, take, getD}
 use lib.Dec.{eqb}
@@ -16,21 +16,20 @@ use Rattle.rules.specs.declared.Verdict.{Verdict}
 use Rattle.rules.specs.declared.Verdict.the-variants.{Pass, Faulted}
 use Rattle.rules.specs.Cases.{isFault}
 use Rattle.rules.specs.History.{History}
-use Rattle.rules.specs.RightHalf.{halfAt}
-use Rattle.rules.specs.Reports.{passed, Arises, atLast, Right, reportOf}
-use Rattle.rules.proofs.Reports.{reportOf-none, reportOf-clear, reportOf-pass, arises-right}
-use Rattle.judge.specs.States.{refusalNumber, reportsOf}
+use Rattle.rules.specs.Reports.{passed, Right, reportOf}
+use Rattle.rules.specs.Checks.{checkCount, checkAt, HasBy, caseAt, reportBy, reportsOf}
+use Rattle.rules.proofs.Reports.{reportOf-none, reportOf-clear, reportOf-pass}
+use Rattle.rules.proofs.Checks.{report-at, check-right}
+use Rattle.judge.specs.States.{refusalNumber}
 use Rattle.judge.specs.Openings.{Fits}
-use Rattle.judge.specs.Words.{Indexed}
-use Rattle.judge.specs.Runs.{Demand3, stateOf}
 use Rattle.judge.proofs.Pieces.{whole-trace}
-use Rattle.sheet_text.specs.Sheets.{text, passLine, lineOf, line, lastLine, lineAt, sheetSize}
+use Rattle.sheet_text.specs.Sheets.{passLine, lineOf, line, nameAt, lastLine, lineAt, sheetSize}
 use Rattle.sheet_text.proofs.Lines.{last-none}
 use Rattle.sheet_text.proofs.Printed.{printed-front}
 use Rattle.sheet_text.proofs.ReadBack.{line-pass-only, line-fault-only, last-same}
-use Rattle.sheet_text.proofs.Cuts.{nine, sheet-line}
-use Rattle.sheet.specs.Printing.{sheetOf, Prints}
-use Rattle.sheet.specs.Readers.{readOf, taken, count, refusal, FaultLine, LineSays, LastSays, SheetSays}
+use Rattle.sheet_text.proofs.Cuts.{sheet-check, sheet-last, sheet-end}
+use Rattle.sheet.specs.Printing.{sheetOf, opening, Prints}
+use Rattle.sheet.specs.Readers.{readOf, taken, count, refusal, FaultLine, LineSays, CheckLine, LastSays, SheetSays}
 use Rattle.sheet.proofs.Enough.{same-pieces, same-refusal, same-records}
 
 -- ---- a check's line
@@ -51,19 +50,19 @@ one-line name Pass at e = inl refl
 one-line name (Faulted kind) at e = inr (record { kind = kind; at = at; evidence = e; is = refl })
 
 -- the line of a right report says what the report says
-line-says : {has : History → Type 0} {caseAt : History → Case} {h : History} (name : List ℕ) (r : Report) → r ≡ reportOf caseAt h → Right has caseAt h r
-    → LineSays has caseAt h name (line name r)
-line-says {has} {caseAt} {h} name r e right = record {
-  pass-only = λ q. right .pass-only (e ∙ pass-whole caseAt h (ap (λ (s : Report). s .verdict) (sym e) ∙ line-pass-only name r q));
+line-says : {has : History → Type 0} {says : History → Case} {h : History} (name : List ℕ) (r : Report) → r ≡ reportOf says h → Right has says h r
+    → LineSays has says h name (line name r)
+line-says {has} {says} {h} name r e right = record {
+  pass-only = λ q. right .pass-only (e ∙ pass-whole says h (ap (λ (s : Report). s .verdict) (sym e) ∙ line-pass-only name r q));
   pass-if = λ none. ap (line name) (right .pass-if none);
   fault-only = λ kind n d q. right .fault-only n kind d (line-fault-only name r kind n d q);
   fault-if = λ kind n d a. ap (line name) (right .fault-if n kind d a);
   one-of-them = one-line name (r .verdict) (r .at) (r .evidence);
 }
 
-said : {has : History → Type 0} {caseAt : History → Case} {h : History} (name : List ℕ) {bytes : List ℕ} (r : Report) → line name r ≡ bytes
-    → r ≡ reportOf caseAt h → Right has caseAt h r → LineSays has caseAt h name bytes
-said {has} {caseAt} {h} name r q e right = subst (LineSays has caseAt h name) q (line-says name r e right)
+said : {has : History → Type 0} {says : History → Case} {h : History} (name : List ℕ) {bytes : List ℕ} (r : Report) → line name r ≡ bytes
+    → r ≡ reportOf says h → Right has says h r → LineSays has says h name bytes
+said {has} {says} {h} name r q e right = subst (LineSays has says h name) q (line-says name r e right)
 
 -- ---- the last line
 
@@ -86,37 +85,35 @@ last-says input n f a p q s =
 fits : {logs words : ℕ} → logs ≡ 368 * 96 → words ≡ 32 * 96 → Fits logs words 96
 fits e f = record { some = omega arith; most = omega arith; log = e; work = f }
 
+-- the line of a report that is the check's says what the check says
+check-says : (input : List ℕ) (k : ℕ) → k < checkCount → {bytes : List ℕ} (r : Report) → line (nameAt k) r ≡ bytes
+    → r ≡ reportBy opening (taken input) (checkAt k) → CheckLine k input bytes
+check-says input k l r q e =
+    let right : Right (HasBy (checkAt k .rule) opening) (caseAt opening (checkAt k)) (taken input) r =
+    subst (Right (HasBy (checkAt k .rule) opening) (caseAt opening (checkAt k)) (taken input)) (sym e) (check-right opening (taken input) k l) in
+    said (nameAt k) r q e right
+
 -- A PRINTED SHEET: where a buffer that holds every sheet has the sheet of what was read of an input at its front, these bytes,
 -- which the program prints, say of the whole input what `SheetSays` lists
 pub printed-sheet : (input : List ℕ) {out out′ : List ℕ} {r : ℕ} → sheetSize ≤ length out → Prints (readOf input) out out′ r
     → SheetSays input (take r out′)
-unfolding sheetOf reportsOf
+unfolding sheetOf
 printed-sheet input {out} {out′} {r} l p =
     let t = p .traced in
-    let w = whole-trace 0 96 (p .log) (p .work) (readOf input) t (p .log′) (p .work′) (fits (p .log-size) (p .work-size)) (p .judged) in
-    let h = taken input in
+    let w = whole-trace opening 96 (p .log) (p .work) (readOf input) t (p .log′) (p .work′) (fits (p .log-size) (p .work-size)) (p .judged) in
     let rs = t .judge .reports in
-    let d : Demand3 Indexed 0 h (stateOf (t .judge) (p .log′) (p .work′)) =
-    subst (λ (g : History). Demand3 Indexed 0 g (stateOf (t .judge) (p .log′) (p .work′))) (same-records input) (w .demand3) in
-    let report : (k : ℕ) → getD rs k passed ≡ getD (reportsOf 0 h) k passed =
-    λ k. ap (λ (s : List Report). getD s k passed) (w .demand2 .reports ∙ ap (reportsOf 0) (same-records input)) in
+    let many = t .judge .count in
+    let number = refusalNumber (t .refusal) in
+    let reports : rs ≡ reportsOf opening (taken input) = w .demand2 .reports ∙ ap (reportsOf opening) (same-records input) in
     let same : take r out′ ≡ sheetOf t = printed-front (sheetOf t) out l (p .size) (p .is) in
-    let at : (k : ℕ) → getD (nine rs (lastLine (t .judge .count) (refusalNumber (t .refusal)) (t .at))) k [] ≡ lineAt k (take r out′) =
-    λ k. sym (ap (lineAt k) same ∙ sheet-line rs (t .judge .count) (refusalNumber (t .refusal)) (t .at) k) in
     let n : count (readOf input) ≡ count input = ap (λ (ps : List (List ℕ)). length ps) (same-pieces input) in
     let f : refusal (readOf input) ≡ refusal input = same-refusal input in
     let place : t .at ≡ cond (eqb (refusal input) 0) (count input) (count input + 1) = w .at ∙ (λ i. cond (eqb (f i) 0) (n i) (n i + 1)) in
-    let half : Right (Arises halfAt) (atLast halfAt) h (getD rs 4 passed) =
-    subst (Right (Arises halfAt) (atLast halfAt) h) (sym (report 4)) (arises-right halfAt h) in
+    let last : lastLine many number (t .at) ≡ lineAt checkCount (take r out′) = sym (ap (lineAt checkCount) same ∙ sheet-last rs many number (t .at)) in
     record {
-      agreement-line = said (text "agreement") (getD rs 0 passed) (at 0) (report 0) (d .agreement .right);
-      overlap-line = said (text "overlap") (getD rs 1 passed) (at 1) (report 1) (d .overlap .right);
-      install-line = said (text "install") (getD rs 2 passed) (at 2) (report 2) (d .install .right);
-      twice-line = said (text "twice") (getD rs 3 passed) (at 3) (report 3) (d .twice .right);
-      half-line = said (text "half") (getD rs 4 passed) (at 4) (report 4) half;
-      generations-line = said (text "generations") (getD rs 5 passed) (at 5) (report 5) (d .generations .right);
-      ids-line = said (text "ids") (getD rs 6 passed) (at 6) (report 6) (d .ids .right);
-      meta-line = said (text "meta") (getD rs 7 passed) (at 7) (report 7) (d .meta .right);
-      last-line = subst (LastSays input) (at 8) (last-says input (t .judge .count) (refusalNumber (t .refusal)) (t .at) (w .count ∙ n) (w .refusal ∙ f) place);
-      end = sym (at 9);
+      check-line = λ k b. check-says input k b (getD rs k passed)
+          (sym (ap (lineAt k) same ∙ sheet-check rs many number (t .at) k b))
+          (ap (λ (s : List Report). getD s k passed) reports ∙ report-at opening (taken input) k b);
+      last-line = subst (LastSays input) last (last-says input many number (t .at) (w .count ∙ n) (w .refusal ∙ f) place);
+      end = ap (lineAt (checkCount + 1)) same ∙ sheet-end rs many number (t .at);
     }

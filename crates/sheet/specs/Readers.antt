@@ -2,21 +2,17 @@
 use mathlib.Core.Path.{_≡_}
 use mathlib.Core.List.{List, []}
 use mathlib.Core.Logic.{_⊎_}
-use Prim.Native.Nat.{ℕ, _+_, _*_, _≤_}
+use Prim.Native.Nat.{ℕ, _+_, _*_, _≤_, _<_}
 use lib.ListN.{length, take}
 use Rattle.rules.specs.declared.Case.{Case}
 use Rattle.rules.specs.declared.Case.the-variants.{Fault}
 use Rattle.rules.specs.declared.Evidence.{Evidence}
 use Rattle.rules.specs.History.{History}
-use Rattle.rules.specs.Reports.{first, HasWhole, Arises, AtRecord, atLast, FirstFault}
-use Rattle.rules.specs.Descriptors.{agreement}
-use Rattle.rules.specs.OneOwnerPerKey.{overlapAt, installAt, twiceAt}
-use Rattle.rules.specs.RightHalf.{halfAt}
-use Rattle.rules.specs.GenerationsRise.{generationsAt}
-use Rattle.rules.specs.IdsUnique.{idsAt}
-use Rattle.rules.specs.MetaNeverGoesBack.{metaAt}
+use Rattle.rules.specs.Reports.{first, FirstFault}
+use Rattle.rules.specs.Checks.{checkCount, checkAt, HasBy, caseAt}
 use Rattle.judge.specs.Pieces.{soundPieces, firstRefusal, recordsTaken}
-use Rattle.sheet_text.specs.Sheets.{text, passLine, faultLine, lastLine, lineAt}
+use Rattle.sheet_text.specs.Sheets.{passLine, faultLine, nameAt, lastLine, lineAt}
+use Rattle.sheet.specs.Printing.{opening}
 
 -- what the program reads of its input: all of it, or the first 97 records where it is longer
 abbrev pub readOf : List ℕ → List ℕ
@@ -40,19 +36,19 @@ pub record FaultLine (name line : List ℕ) : Type 0 where
   pub evidence : Evidence
   pub is : line ≡ faultLine name kind at evidence
 
--- what a check's line says of the records h. `has` is that a beginning of them has the check's fault, `caseAt` the fault's kind
+-- what a check's line says of the records h. `has` is that a beginning of them has the check's fault, `says` the fault's kind
 -- and evidence. A pass is printed exactly when no beginning has the fault; a fault at record n exactly when the first n records
 -- have it and no fewer do, with that fault's kind and evidence; and nothing else is printed
-pub record LineSays (has : History → Type 0) (caseAt : History → Case) (h : History) (name line : List ℕ) : Type 0 where
+pub record LineSays (has : History → Type 0) (says : History → Case) (h : History) (name line : List ℕ) : Type 0 where
   pub pass-only : line ≡ passLine name → (n : ℕ) → n ≤ length h → has (first n h) → ⊥
   pub pass-if : ((n : ℕ) → n ≤ length h → has (first n h) → ⊥) → line ≡ passLine name
-  pub fault-only : (kind n : ℕ) (e : Evidence) → line ≡ faultLine name kind n e → FirstFault has caseAt h n (Fault kind e)
-  pub fault-if : (kind n : ℕ) (e : Evidence) → FirstFault has caseAt h n (Fault kind e) → line ≡ faultLine name kind n e
+  pub fault-only : (kind n : ℕ) (e : Evidence) → line ≡ faultLine name kind n e → FirstFault has says h n (Fault kind e)
+  pub fault-if : (kind n : ℕ) (e : Evidence) → FirstFault has says h n (Fault kind e) → line ≡ faultLine name kind n e
   pub one-of-them : (line ≡ passLine name) ⊎ FaultLine name line
 
--- the line of a check whose fault is a case that arises at a record
-abbrev pub RecordLine : AtRecord → History → List ℕ → List ℕ → Type 0
-RecordLine f = LineSays (Arises f) (atLast f)
+-- the line of the check at a place of the table, for the program's tenant: its name and what its rule says of the input's records
+abbrev pub CheckLine : ℕ → List ℕ → List ℕ → Type 0
+CheckLine k input = LineSays (HasBy (checkAt k .rule) opening) (caseAt opening (checkAt k)) (taken input) (nameAt k)
 
 -- what the last line says: the records taken, and the first refusal, at the record after them. Whatever numbers a last line has,
 -- they are these; where there is no refusal it has no third
@@ -60,15 +56,9 @@ pub record LastSays (input line : List ℕ) : Type 0 where
   pub is : line ≡ lastLine (count input) (refusal input) (count input + 1)
   pub only : (n f a : ℕ) → line ≡ lastLine n f a → (n ≡ count input) × (f ≡ refusal input) × ((f ≡ 0 → ⊥) → a ≡ count input + 1)
 
--- what the printed bytes say of the input: eight lines in printing order, the last line, and nothing after it
+-- what the printed bytes say of the input: a line for each check of the table, in printing order, then the last line, and nothing
+-- after it
 pub record SheetSays (input bytes : List ℕ) : Type 0 where
-  pub agreement-line : LineSays (HasWhole agreement) agreement (taken input) (text "agreement") (lineAt 0 bytes)
-  pub overlap-line : RecordLine overlapAt (taken input) (text "overlap") (lineAt 1 bytes)
-  pub install-line : RecordLine (installAt 0) (taken input) (text "install") (lineAt 2 bytes)
-  pub twice-line : RecordLine twiceAt (taken input) (text "twice") (lineAt 3 bytes)
-  pub half-line : RecordLine halfAt (taken input) (text "half") (lineAt 4 bytes)
-  pub generations-line : RecordLine generationsAt (taken input) (text "generations") (lineAt 5 bytes)
-  pub ids-line : RecordLine idsAt (taken input) (text "ids") (lineAt 6 bytes)
-  pub meta-line : RecordLine metaAt (taken input) (text "meta") (lineAt 7 bytes)
-  pub last-line : LastSays input (lineAt 8 bytes)
-  pub end : lineAt 9 bytes ≡ []
+  pub check-line : (k : ℕ) → k < checkCount → CheckLine k input (lineAt k bytes)
+  pub last-line : LastSays input (lineAt checkCount bytes)
+  pub end : lineAt (checkCount + 1) bytes ≡ []

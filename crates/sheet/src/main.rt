@@ -10,6 +10,7 @@ use judge::state::Judge;
 use judge::state::number_of;
 use judge::trace::Traced;
 use libc::STDERR_FILENO;
+use rules::Opening;
 use sheet_text::SHEET_SIZE;
 use sheet_text::sheet;
 ghost use mathlib.Core.Path.{_≡_};
@@ -51,7 +52,8 @@ fn judged(trace: &[u8], out: &mut [u8]) -> usize
 {
     let mut log = [0u8; LOG];
     let mut work = [0u64; WORK];
-    let traced = Judge::judge_trace(TENANT, &mut log, &mut work, trace);
+    let opening = Opening { tenant: TENANT };
+    let traced = Judge::judge_trace(opening, &mut log, &mut work, trace);
     sheet_of(traced, out)
 }
 

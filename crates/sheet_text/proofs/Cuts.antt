@@ -1,19 +1,23 @@
--- The printed sheet by its lines: each ends in its only newline, so that cutting there gives back the nine. Assumes nothing.
-use mathlib.Core.Path.{_≡_, refl, sym, ap, _∙_}
+-- The printed sheet by its lines: each ends in its only newline, so that cutting there gives back the checks' lines and the last. Assumes nothing.
+use mathlib.Core.Path.{_≡_, refl, sym, ap, _∙_, subst}
 use mathlib.Core.Bool.{Bool, true, false, cond}
 use mathlib.Core.List.{List, [], _∷_, _++_, append-assoc, append-nil}
-use Prim.Native.Nat.{ℕ, zero, suc}
+use Prim.Native.Nat.{ℕ, zero, suc, _+_, _≤_, _<_}
+use native.Mathlib.Decide.{ℕ-discrete}
 use native.Mathlib.Omega.{arith}
 use lib.ListN.{getD}
-use lib.Dec.{eqb}
-use borrow.Author.Tests.{ne-eqb}
+use lib.Dec.{eqb, ltb}
+use borrow.Author.Tests.{ne-eqb, ltb-true}
 use Rattle.rules.specs.declared.Evidence.{Evidence}
 use Rattle.rules.specs.declared.Report.{Report}
 use Rattle.rules.specs.declared.Verdict.{Verdict}
 use Rattle.rules.specs.declared.Verdict.the-variants.{Pass, Faulted}
 use Rattle.rules.specs.Reports.{passed}
-use Rattle.sheet_text.specs.Sheets.{text, decimal, spaced, evidenceText, passLine, faultLine, lineOf, line, lines, refusedText, lastLine}
+use Rattle.rules.specs.Checks.{checkCount}
+use Rattle.rules.proofs.Booleans.{and-left, and-right}
+use Rattle.sheet_text.specs.Sheets.{text, decimal, spaced, evidenceText, passLine, faultLine, lineOf, line, nameAt, linesTo, refusedText, lastLine}
 use Rattle.sheet_text.specs.Sheets.{sheetText, firstLine, afterLine, lineAt}
+use Rattle.sheet_text.proofs.Names.{worded, name-worded}
 use Rattle.sheet_text.proofs.ReadBack.{Digits, decimal-digits}
 
 -- ---- texts without a newline
@@ -141,61 +145,83 @@ closed-first c rest = ap firstLine (closed-at c rest) ∙ first-line (c .body) r
 closed-after : {l : List ℕ} → Closed l → (rest : List ℕ) → afterLine (l ++ rest) ≡ rest
 closed-after c rest = ap afterLine (closed-at c rest) ∙ after-line (c .body) rest (c .alone .is)
 
--- lines one after the other
-unfoldable pub joined : List (List ℕ) → List ℕ
-joined [] = []
-joined (l ∷ ls) = l ++ joined ls
-
-pub data AllClosed : List (List ℕ) → Type 0 where
-  none : AllClosed []
-  more : {l : List ℕ} {ls : List (List ℕ)} → Closed l → AllClosed ls → AllClosed (l ∷ ls)
-
 nothing-at : (k : ℕ) → lineAt k [] ≡ []
 unfolding lineAt firstLine afterLine
 nothing-at zero = refl
 nothing-at (suc k) = nothing-at k
 
-pub joined-at : {ls : List (List ℕ)} → AllClosed ls → (k : ℕ) → lineAt k (joined ls) ≡ getD ls k []
-unfolding joined lineAt
-joined-at none k = nothing-at k
-joined-at (more {ls = ls} c cs) zero = closed-first c (joined ls)
-joined-at (more {ls = ls} c cs) (suc k) = ap (lineAt k) (closed-after c (joined ls)) ∙ joined-at cs k
+closed-next : {l : List ℕ} → Closed l → (rest : List ℕ) (k : ℕ) → lineAt (suc k) (l ++ rest) ≡ lineAt k rest
+unfolding lineAt
+closed-next c rest k = ap (lineAt k) (closed-after c rest)
+
+closed-zero : {l : List ℕ} → Closed l → (rest : List ℕ) → lineAt zero (l ++ rest) ≡ l
+unfolding lineAt
+closed-zero c rest = closed-first c rest
 
 -- ---- the sheet
 
-abbrev pub nine : List Report → List ℕ → List (List ℕ)
-nine reports last =
-    line (text "agreement") (getD reports 0 passed)
-    ∷ line (text "overlap") (getD reports 1 passed)
-    ∷ line (text "install") (getD reports 2 passed)
-    ∷ line (text "twice") (getD reports 3 passed)
-    ∷ line (text "half") (getD reports 4 passed)
-    ∷ line (text "generations") (getD reports 5 passed)
-    ∷ line (text "ids") (getD reports 6 passed)
-    ∷ line (text "meta") (getD reports 7 passed)
-    ∷ last
-    ∷ []
+word-plain : (l : List ℕ) → worded l ≡ true → plain l ≡ true
+unfolding worded plain
+word-plain [] w = refl
+word-plain (x ∷ l) w =
+    let big : 32 < x = ltb-true 32 x (and-left (ltb 32 x) (worded l) w) in
+    ap (λ (b : Bool). cond b false (plain l)) (ne-eqb x 10 (λ e. omega arith)) ∙ word-plain l (and-right (ltb 32 x) (worded l) w)
 
-nest : (a b c d e f g h z : List ℕ) → a ++ b ++ c ++ d ++ e ++ f ++ g ++ h ++ z ≡ joined (a ∷ b ∷ c ∷ d ∷ e ∷ f ∷ g ∷ h ∷ z ∷ [])
-unfolding joined
-nest a b c d e f g h z = simp (append-assoc, append-nil)
+module _ (reports : List Report) where
+  closed-check : (k : ℕ) → k < checkCount → Closed (line (nameAt k) (getD reports k passed))
+  closed-check k l = closed-line (word (nameAt k) (word-plain (nameAt k) (name-worded k l))) (getD reports k passed)
 
-sheet-joined : (reports : List Report) (n f a : ℕ) → sheetText reports n f a ≡ joined (nine reports (lastLine n f a))
-unfolding sheetText lines
-sheet-joined reports n f a = nest _ _ _ _ _ _ _ _ (lastLine n f a)
+  -- one check's line more, before a text
+  lines-before : (n : ℕ) (rest : List ℕ) → linesTo (suc n) reports ++ rest ≡ linesTo n reports ++ (line (nameAt n) (getD reports n passed) ++ rest)
+  unfolding linesTo
+  lines-before n rest = append-assoc (linesTo n reports) (line (nameAt n) (getD reports n passed)) rest
 
-nine-closed : (reports : List Report) (n f a : ℕ) → AllClosed (nine reports (lastLine n f a))
-unfolding plain
-nine-closed reports n f a =
-    more (closed-line (word (text "agreement") refl) (getD reports 0 passed))
-    (more (closed-line (word (text "overlap") refl) (getD reports 1 passed))
-    (more (closed-line (word (text "install") refl) (getD reports 2 passed))
-    (more (closed-line (word (text "twice") refl) (getD reports 3 passed))
-    (more (closed-line (word (text "half") refl) (getD reports 4 passed))
-    (more (closed-line (word (text "generations") refl) (getD reports 5 passed))
-    (more (closed-line (word (text "ids") refl) (getD reports 6 passed))
-    (more (closed-line (word (text "meta") refl) (getD reports 7 passed)) (more (closed-last n f a) none))))))))
+  -- after the lines of the first n checks come those of the text
+  lines-past : (n : ℕ) → n ≤ checkCount → (rest : List ℕ) (j : ℕ) → lineAt (n + j) (linesTo n reports ++ rest) ≡ lineAt j rest
+  unfolding linesTo
+  lines-past zero l rest j = let e : 0 + j ≡ j = omega arith in ap (λ (k : ℕ). lineAt k rest) e
+  lines-past (suc n) l rest j =
+      let e : suc n + j ≡ n + suc j = omega arith in
+      (λ i. lineAt (e i) (lines-before n rest i))
+      ∙ lines-past n (omega arith) (line (nameAt n) (getD reports n passed) ++ rest) (suc j)
+      ∙ closed-next (closed-check n (omega arith)) rest j
 
--- THE LINES OF A SHEET by their numbers: those of the eight checks, the last line, and then nothing
-pub sheet-line : (reports : List Report) (n f a k : ℕ) → lineAt k (sheetText reports n f a) ≡ getD (nine reports (lastLine n f a)) k []
-sheet-line reports n f a k = ap (lineAt k) (sheet-joined reports n f a) ∙ joined-at (nine-closed reports n f a) k
+  -- line k of them is that of check k
+  lines-at : (n : ℕ) → n ≤ checkCount → (rest : List ℕ) (k : ℕ) → k < n → lineAt k (linesTo n reports ++ rest) ≡ line (nameAt k) (getD reports k passed)
+  lines-at zero l rest k h = absurd (omega arith)
+  lines-at (suc n) l rest k h = ap (lineAt k) (lines-before n rest) ∙ elim (ℕ-discrete k n) [
+    | yes e ↦ subst
+        (λ (m : ℕ). lineAt m (linesTo n reports ++ (line (nameAt n) (getD reports n passed) ++ rest)) ≡ line (nameAt m) (getD reports m passed))
+        (sym e) (newest n (omega arith) rest)
+    | no d ↦ lines-at n (omega arith) (line (nameAt n) (getD reports n passed) ++ rest) k (omega arith)
+  ]
+    where
+      newest : (n : ℕ) → n < checkCount → (rest : List ℕ)
+          → lineAt n (linesTo n reports ++ (line (nameAt n) (getD reports n passed) ++ rest)) ≡ line (nameAt n) (getD reports n passed)
+      newest n l rest =
+          let e : n + 0 ≡ n = omega arith in
+          ap (λ (m : ℕ). lineAt m (linesTo n reports ++ (line (nameAt n) (getD reports n passed) ++ rest))) (sym e)
+          ∙ lines-past n (omega arith) (line (nameAt n) (getD reports n passed) ++ rest) 0
+          ∙ closed-zero (closed-check n l) rest
+
+  -- THE LINES OF A SHEET by their numbers: each check's, ..
+  pub sheet-check : (n f a k : ℕ) → k < checkCount → lineAt k (sheetText reports n f a) ≡ line (nameAt k) (getD reports k passed)
+  unfolding sheetText
+  sheet-check n f a k l = lines-at checkCount (omega arith) (lastLine n f a) k l
+
+  -- .. the last line, ..
+  pub sheet-last : (n f a : ℕ) → lineAt checkCount (sheetText reports n f a) ≡ lastLine n f a
+  unfolding sheetText
+  sheet-last n f a =
+      lines-past checkCount (omega arith) (lastLine n f a) 0
+      ∙ ap (lineAt 0) (sym (append-nil (lastLine n f a)))
+      ∙ closed-zero (closed-last n f a) []
+
+  -- .. and then nothing
+  pub sheet-end : (n f a : ℕ) → lineAt (checkCount + 1) (sheetText reports n f a) ≡ []
+  unfolding sheetText
+  sheet-end n f a =
+      lines-past checkCount (omega arith) (lastLine n f a) 1
+      ∙ ap (lineAt 1) (sym (append-nil (lastLine n f a)))
+      ∙ closed-next (closed-last n f a) [] 0
+      ∙ nothing-at 0

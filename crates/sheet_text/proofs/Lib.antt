@@ -2,6 +2,7 @@ pub mod Appends
 pub mod Decimals
 pub mod Examples
 pub mod Lines
+pub mod Names
 pub mod Numbers
 pub mod Printed
 pub mod ReadBack

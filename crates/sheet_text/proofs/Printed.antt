@@ -2,13 +2,13 @@
 use mathlib.Core.Path.{_≡_, sym, ap, _∙_}
 use mathlib.Core.Bool.{Bool, true, false, cond}
 use mathlib.Core.List.{List, _++_}
-use Prim.Native.Nat.{ℕ, _≤_, _<_}
+use Prim.Native.Nat.{ℕ, _+_, _≤_, _<_}
 use native.Mathlib.Omega.{arith}
 use lib.ListN.{length, take, drop, length-append, length-drop}
 use lib.Seq.{take-at}
 use lib.Dec.{leb}
 use borrow.Author.Tests.{le-leb, lt-leb}
-use Rattle.sheet_text.specs.Sheets.{sheetSize, printed, printedLength}
+use Rattle.sheet_text.specs.Sheets.{linesSize, sheetSize, printed, printedLength}
 use Rattle.sheet_text.specs.Appends.{Appended}
 use Rattle.sheet_text.proofs.Appends.{appended-front}
 
@@ -17,7 +17,7 @@ short-sheet bytes out l =
     let e = lt-leb sheetSize (length out) l in
     (sym (ap (λ (b : Bool). cond b (length bytes) 0) e), sym (ap (λ (b : Bool). cond b (bytes ++ drop (length bytes) out) out) e))
 
-pub long-sheet : {out out′ bytes : List ℕ} {r : ℕ} → sheetSize ≤ length out → Appended 1396 out out′ 0 bytes r
+pub long-sheet : {out out′ bytes : List ℕ} {r : ℕ} → sheetSize ≤ length out → Appended (linesSize + 82) out out′ 0 bytes r
     → (r ≡ printedLength bytes out) × (out′ ≡ printed bytes out)
 long-sheet {out} {out′} {bytes} {r} l w =
     let e = le-leb sheetSize (length out) l in

@@ -1,5 +1,5 @@
 -- The printed sheet of a trace, as bytes: document 01's section "Printed sheet".
-use Prim.Native.Nat.{ℕ, zero, suc, _+_, _/_, _%_}
+use Prim.Native.Nat.{ℕ, zero, suc, _+_, _*_, _/_, _%_}
 use Prim.Native.Char.{code}
 use Prim.Native.String.{String, [] as empty, _∷_ as _followed_}
 use mathlib.Core.Bool.{cond}
@@ -11,6 +11,7 @@ use Rattle.rules.specs.declared.Report.{Report}
 use Rattle.rules.specs.declared.Verdict.{Verdict}
 use Rattle.rules.specs.declared.Verdict.the-variants.{Pass, Faulted}
 use Rattle.rules.specs.Reports.{passed}
+use Rattle.rules.specs.Checks.{checkCount, checkAt}
 
 -- the bytes of a text, one for each of its characters, which are ASCII
 abbrev pub text : String → List ℕ
@@ -48,17 +49,27 @@ lineOf name (Faulted kind) at e = faultLine name kind at e
 abbrev pub line : List ℕ → Report → List ℕ
 line name r = lineOf name (r .verdict) (r .at) (r .evidence)
 
--- the lines of the eight checks, in printing order
-unfoldable pub lines : List Report → List ℕ
-lines reports =
-    line (text "agreement") (getD reports 0 passed)
-    ++ line (text "overlap") (getD reports 1 passed)
-    ++ line (text "install") (getD reports 2 passed)
-    ++ line (text "twice") (getD reports 3 passed)
-    ++ line (text "half") (getD reports 4 passed)
-    ++ line (text "generations") (getD reports 5 passed)
-    ++ line (text "ids") (getD reports 6 passed)
-    ++ line (text "meta") (getD reports 7 passed)
+-- a check's name in bytes, by its place in the table; the bytes that hold every name, and every check's line
+abbrev pub nameAt : ℕ → List ℕ
+nameAt k = text (checkAt k .name)
+
+abbrev pub nameSize : ℕ
+nameSize = 11
+
+abbrev pub lineSize : ℕ
+lineSize = nameSize + 158
+
+-- the lines of the first so many checks of the table, in printing order, each with its report; one that is missing reads as a pass
+unfoldable pub linesTo : ℕ → List Report → List ℕ
+linesTo zero reports = []
+linesTo (suc k) reports = linesTo k reports ++ line (nameAt k) (getD reports k passed)
+
+-- of all checks
+abbrev pub lines : List Report → List ℕ
+lines reports = linesTo checkCount reports
+
+abbrev pub linesSize : ℕ
+linesSize = lineSize * checkCount
 
 -- "The last line is `records` and those taken; after a refusal it goes on with `refused` number `at` record"
 unfoldable pub refusedText : ℕ → ℕ → List ℕ

@@ -2,12 +2,15 @@
 // digits.
 use crate::append::append_spaced;
 use crate::append::append_text;
+use crate::name::append_name;
+use rules::CHECKS;
 use rules::Evidence;
 use rules::Report;
 use rules::Verdict;
-ghost use Prim.Native.Nat.{_+_, _≤_};
+ghost use Prim.Native.Nat.{_+_, _≤_, _<_};
 ghost use lib.ListN.{length};
-ghost use Rattle.sheet_text.specs.Sheets.{evidenceText, passLine, faultLine, line, lines, refusedText, lastLine};
+ghost use Rattle.rules.specs.Checks.{checkCount};
+ghost use Rattle.sheet_text.specs.Sheets.{nameAt, evidenceText, passLine, faultLine, line, lineSize, lines, linesSize, refusedText, lastLine};
 ghost use Rattle.sheet_text.specs.Appends.{Appended};
 
 fn append_evidence(out: &mut [u8], at: usize, e: Evidence) -> usize
@@ -21,26 +24,26 @@ fn append_evidence(out: &mut [u8], at: usize, e: Evidence) -> usize
     append_spaced(out, d, e.e4)
 }
 
-fn append_pass(out: &mut [u8], at: usize, name: &[u8]) -> usize
-    requires { ⌜ at + (length (now name) + 6) ≤ length (now out) ⌝ }
-    ensures { λ r. ⌜ Appended (length (now (name .entry)) + 6) (now (out .entry)) (now (out .exit)) at (passLine (now (name .entry))) r ⌝ }
+fn append_pass(out: &mut [u8], at: usize, check: usize) -> usize
+    requires { ⌜ (at + lineSize ≤ length (now out)) × (check < checkCount) ⌝ }
+    ensures { λ r. ⌜ Appended lineSize (now (out .entry)) (now (out .exit)) at (passLine (nameAt check)) r ⌝ }
 {
-    let end = append_text(out, at, name);
+    let end = append_name(out, at, check);
     append_text(out, end, b" pass\n")
 }
 
 fn append_fault(
     out: &mut [u8],
     at: usize,
-    name: &[u8],
+    check: usize,
     kind: u64,
     position: u64,
     e: Evidence,
 ) -> usize
-    requires { ⌜ at + (length (now name) + 158) ≤ length (now out) ⌝ }
-    ensures { λ r. ⌜ Appended (length (now (name .entry)) + 158) (now (out .entry)) (now (out .exit)) at (faultLine (now (name .entry)) kind position e) r ⌝ }
+    requires { ⌜ (at + lineSize ≤ length (now out)) × (check < checkCount) ⌝ }
+    ensures { λ r. ⌜ Appended lineSize (now (out .entry)) (now (out .exit)) at (faultLine (nameAt check) kind position e) r ⌝ }
 {
-    let a = append_text(out, at, name);
+    let a = append_name(out, at, check);
     let b = append_text(out, a, b" fault");
     let c = append_spaced(out, b, kind);
     let d = append_text(out, c, b" at");
@@ -50,32 +53,32 @@ fn append_fault(
     append_text(out, h, b"\n")
 }
 
-// A check's line: its name, and what it reports.
-fn append_report(out: &mut [u8], at: usize, name: &[u8], report: Report) -> usize
-    requires { ⌜ at + (length (now name) + 158) ≤ length (now out) ⌝ }
-    ensures { λ r. ⌜ Appended (length (now (name .entry)) + 158) (now (out .entry)) (now (out .exit)) at (line (now (name .entry)) report) r ⌝ }
+// The line of the check at a place of the table: its name, and what it reports.
+fn append_report(out: &mut [u8], at: usize, check: usize, report: Report) -> usize
+    requires { ⌜ (at + lineSize ≤ length (now out)) × (check < checkCount) ⌝ }
+    ensures { λ r. ⌜ Appended lineSize (now (out .entry)) (now (out .exit)) at (line (nameAt check) report) r ⌝ }
 {
     let verdict = report.verdict;
     let e = report.evidence;
     match verdict {
-        Verdict::Pass => append_pass(out, at, name),
-        Verdict::Faulted(kind) => append_fault(out, at, name, kind as u64, report.at, e),
+        Verdict::Pass => append_pass(out, at, check),
+        Verdict::Faulted(kind) => append_fault(out, at, check, kind as u64, report.at, e),
     }
 }
 
-// The lines of the eight checks, in printing order, from the front on.
-pub(crate) fn append_lines(out: &mut [u8], reports: [Report; 8]) -> usize
-    requires { ⌜ 1314 ≤ length (now out) ⌝ }
-    ensures { λ r. ⌜ Appended 1314 (now (out .entry)) (now (out .exit)) 0 (lines reports) r ⌝ }
+// The lines of the checks, in printing order, from the front on.
+pub(crate) fn append_lines(out: &mut [u8], reports: [Report; CHECKS]) -> usize
+    requires { ⌜ linesSize ≤ length (now out) ⌝ }
+    ensures { λ r. ⌜ Appended linesSize (now (out .entry)) (now (out .exit)) 0 (lines reports) r ⌝ }
 {
-    let a = append_report(out, 0, b"agreement", reports[0]);
-    let b = append_report(out, a, b"overlap", reports[1]);
-    let c = append_report(out, b, b"install", reports[2]);
-    let d = append_report(out, c, b"twice", reports[3]);
-    let f = append_report(out, d, b"half", reports[4]);
-    let g = append_report(out, f, b"generations", reports[5]);
-    let h = append_report(out, g, b"ids", reports[6]);
-    append_report(out, h, b"meta", reports[7])
+    let mut end = 0usize;
+    let mut k = 0usize;
+    while k < CHECKS {
+        let report = reports[k];
+        end = append_report(out, end, k, report);
+        k += 1;
+    }
+    end
 }
 
 // What the last line says of a refusal: nothing where there was none.

@@ -1,4 +1,4 @@
--- The trace is judged from a log and a work area of zeros.
+-- `judged`: the trace is judged from a log and a work area of zeros.
 use Prim.Native.Nat.{ℕ}
 use lib.ListN.{replicate, length-replicate}
 use borrow.Author.Needs.{needs}

@@ -1,4 +1,4 @@
--- The sheet of the reports, of the records taken, and of the refusal by its number.
+-- `sheet_of`: the sheet of the reports, of the records taken, and of the refusal by its number.
 use mathlib.Core.Path.{ap, _∙_}
 use mathlib.Core.List.{List}
 use Prim.Native.Nat.{ℕ}

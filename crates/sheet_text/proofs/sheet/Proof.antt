@@ -1,4 +1,4 @@
--- A short buffer stays as it was; in another the lines of the checks, and then the last.
+-- `sheet`: a short buffer stays as it was; in another the lines of the checks, and then the last.
 use native.Mathlib.Omega.{arith}
 use Rattle.sheet_text.specs.Sheets.{sheetText}
 use Rattle.sheet_text.proofs.Appends.{_⨾_, appended-length, room-after}

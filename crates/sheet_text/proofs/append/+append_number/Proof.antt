@@ -1,4 +1,4 @@
--- The proof of the one function that calls itself: the measure is the number, of which its tenth part is smaller.
+-- `append_number`, the one function that calls itself: the measure is the number, of which its tenth part is smaller.
 use native.Mathlib.Omega.{arith}
 use Rattle.sheet_text.proofs.Appends.{appended-length}
 use Rattle.sheet_text.proofs.Numbers.{small-length, large-length, appended-digit, appended-last}
@@ -84,13 +84,21 @@ append-number-slice-write-out-2 : (t : ℕ) → append-number-lts.Need-slice-wri
   append-number-below t,
   append-number.Post,
 ) (append-number-at t) append-number.Post
-append-number-slice-write-out-2 t c = omega (arith, c .before .before .before .before .before .before .pre .1, large-length _ (c .before .before .before .before .if1 .left), c .before .before .append-number .ensures .end, appended-length (c .before .before .append-number .ensures))
+append-number-slice-write-out-2 t c =
+    let c1 = c .before .before in
+    let c2 = c1 .before .before in
+    let w = c1 .append-number .ensures in
+    omega (arith, c2 .before .before .pre .1, large-length _ (c2 .if1 .left), w .end, appended-length w)
 
 append-number-add-result-2 : (t : ℕ) → append-number-lts.Need-add-result-2 (
   append-number-below t,
   append-number.Post,
 ) (append-number-at t) append-number.Post
-append-number-add-result-2 t c = omega (arith, c .before .before .before .before .before .before .pre .1, large-length _ (c .before .before .before .before .if1 .left), c .before .before .append-number .ensures .end, appended-length (c .before .before .append-number .ensures))
+append-number-add-result-2 t c =
+    let c1 = c .before .before in
+    let c2 = c1 .before .before in
+    let w = c1 .append-number .ensures in
+    omega (arith, c2 .before .before .pre .1, large-length _ (c2 .if1 .left), w .end, appended-length w)
 
 append-number-same-length-2 : (t : ℕ) → append-number-lts.Need-same-length-2 (
   append-number-below t,

@@ -1,4 +1,4 @@
--- A space, and then the number.
+-- `append_spaced`: a space, and then the number.
 use native.Mathlib.Omega.{arith}
 use lib.ListN.{length}
 use Rattle.sheet_text.specs.Sheets.{decimal, spaced}

@@ -1,4 +1,4 @@
--- The first i bytes of the text are written.
+-- `append_text`: the first i bytes of the text are written.
 use Prim.Native.Nat.{_+_, _-_, _≤_}
 use native.Mathlib.Omega.{arith}
 use lib.ListN.{length, take}

@@ -1,4 +1,4 @@
--- The five numbers, one after the other.
+-- `append_evidence`: the five numbers, one after the other.
 use native.Mathlib.Omega.{arith}
 use Rattle.sheet_text.specs.Sheets.{evidenceText}
 use Rattle.sheet_text.proofs.Appends.{_⨾_, appended-length, room-after}
@@ -36,7 +36,10 @@ append-spaced-requires-5 c κs =
     let c3 = c2 .before .before .before .before in
     let c4 = c3 .before .before .before .before in
     let c5 = c4 .before .before .before in
-    room-after (c4 .append-spaced .ensures ⨾ c3 .append-spaced2 .ensures ⨾ c2 .append-spaced3 .ensures ⨾ c1 .append-spaced4 .ensures) 21 (omega (arith, c5 .pre))
+    room-after (c4 .append-spaced .ensures
+    ⨾ c3 .append-spaced2 .ensures
+    ⨾ c2 .append-spaced3 .ensures
+    ⨾ c1 .append-spaced4 .ensures) 21 (omega (arith, c5 .pre))
 
 same-length : tie.Need-same-length
 same-length c =
@@ -45,7 +48,11 @@ same-length c =
     let c3 = c2 .before .before .before .before in
     let c4 = c3 .before .before .before .before in
     let c5 = c4 .before .before .before .before in
-    appended-length (c5 .append-spaced .ensures ⨾ c4 .append-spaced2 .ensures ⨾ c3 .append-spaced3 .ensures ⨾ c2 .append-spaced4 .ensures ⨾ c1 .append-spaced5 .ensures)
+    appended-length (c5 .append-spaced .ensures
+    ⨾ c4 .append-spaced2 .ensures
+    ⨾ c3 .append-spaced3 .ensures
+    ⨾ c2 .append-spaced4 .ensures
+    ⨾ c1 .append-spaced5 .ensures)
 
 returns : tie.Need-returns
 unfolding evidenceText

@@ -1,4 +1,4 @@
--- The parts of the line, one after the other.
+-- `append_last`: the parts of the line, one after the other.
 use native.Mathlib.Omega.{arith}
 use Rattle.sheet_text.specs.Sheets.{lastLine}
 use Rattle.sheet_text.proofs.Appends.{_⨾_, appended-length, room-after}

@@ -1,4 +1,4 @@
--- Nothing, or the parts of the text, one after the other.
+-- `append_refused`: nothing, or the parts of the text, one after the other.
 use mathlib.Core.Path.{refl}
 use native.Mathlib.Omega.{arith}
 use Rattle.sheet_text.proofs.Appends.{appended-none, appended-most, _⨾_, appended-length, room-after}
@@ -58,7 +58,10 @@ returns-2 c =
     let c4 = c3 .before .before .before .before in
     let c5 = c4 .before .before .before in
     let c6 = c5 .before .before in
-    rw (refused-some _ (c6 .args .position) (c5 .if1 .left)) (c4 .append-text .ensures ⨾ c3 .append-spaced .ensures ⨾ c2 .append-text2 .ensures ⨾ c1 .append-spaced2 .ensures)
+    rw (refused-some _ (c6 .args .position) (c5 .if1 .left)) (c4 .append-text .ensures
+    ⨾ c3 .append-spaced .ensures
+    ⨾ c2 .append-text2 .ensures
+    ⨾ c1 .append-spaced2 .ensures)
 
 pub append-refused-spec : {M : Type 1} → statement M
 append-refused-spec =

@@ -1,6 +1,5 @@
--- The line of the verdict's case.
-use native.Mathlib.Omega.{arith}
-use Rattle.sheet_text.proofs.Appends.{appended-most, appended-length}
+-- `append_report`: the line of the verdict's case.
+use Rattle.sheet_text.proofs.Appends.{appended-length}
 use Rattle.sheet_text.proofs.Lines.{line-pass, line-fault}
 use borrow.Author.Needs.{needs}
 use Rattle.sheet_text.proofs.line.append_report.Statement.{statement}
@@ -10,7 +9,7 @@ enum-told : tie.Need-enum-told
 enum-told c = search needs
 
 append-pass-requires : tie.Need-append-pass-requires
-append-pass-requires c κs = omega (arith, c .before .before .before .before .before .before .pre)
+append-pass-requires c κs = c .before .before .before .before .before .pre
 
 enum-known-verdict : tie.Need-enum-known-verdict
 enum-known-verdict c = search needs
@@ -19,7 +18,7 @@ cast-append-fault : tie.Need-cast-append-fault
 cast-append-fault c = search needs
 
 append-fault-requires : tie.Need-append-fault-requires
-append-fault-requires c κs = omega (arith, c .before .before .before .before .before .before .before .pre)
+append-fault-requires c κs = c .before .before .before .before .before .before .pre
 
 same-length : tie.Need-same-length
 same-length c = appended-length (c .before .before .append-pass .ensures)
@@ -28,7 +27,7 @@ returns : tie.Need-returns
 returns c =
     let c1 = c .before .before in
     let c2 = c1 .before .before in
-    rw (line-pass _ _ _ _ (c2 .enum-told .given .1)) (appended-most (omega arith) (c1 .append-pass .ensures))
+    rw (line-pass _ _ _ _ (c2 .enum-told .given .1)) (c1 .append-pass .ensures)
 
 same-length-2 : tie.Need-same-length-2
 same-length-2 c = appended-length (c .before .before .append-fault .ensures)
