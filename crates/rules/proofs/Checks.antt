@@ -25,7 +25,7 @@ every-at P (c ∷ cs) d p zero l = p .0
 every-at P (c ∷ cs) d p (suc k) l = every-at P cs d (p .1) k (omega arith)
 
 pub check-at : (P : Check → Type 0) → Every P checks → (k : ℕ) → k < checkCount → P (checkAt k)
-check-at P p k l = every-at P checks (checkAt 8) p k l
+check-at P p k l = every-at P checks (checkAt checkCount) p k l
 
 -- the report at a place is that of the check at that place
 map-at : (o : Opening) (h : History) (cs : List Check) (d : Check) (k : ℕ) → k < length cs → getD (map (reportBy o h) cs) k passed ≡ reportBy o h (getD cs k d)
@@ -35,7 +35,7 @@ map-at o h (c ∷ cs) d (suc k) l = map-at o h cs d k (omega arith)
 
 pub report-at : (o : Opening) (h : History) (k : ℕ) → k < checkCount → getD (reportsOf o h) k passed ≡ reportBy o h (checkAt k)
 unfolding reportsOf
-report-at o h k l = map-at o h checks (checkAt 8) k l
+report-at o h k l = map-at o h checks (checkAt checkCount) k l
 
 -- ---- reports are right
 
