@@ -66,8 +66,10 @@ fn compare(row: &Row, loose: bool) {
     let mut buffers = Buffers::new(row.size);
     for (seed, trace) in row.traces.iter().enumerate() {
         buffers.judge(TENANT, &trace.bytes);
+        buffers.push(TENANT, &trace.bytes);
         let (taken, reports) = buffers.answer();
         assert_eq!(taken as usize, row.size, "{}: records taken", row.name);
+        assert_eq!(buffers.pushed(), (taken, reports), "{}: a trace and its pushes differ", row.name);
         for check in 0..CHECKS.len() {
             let (ours, rust) = (reports[check], trace.reports[check]);
             if ours != rust {
@@ -84,8 +86,8 @@ fn faults(row: &Row) -> usize {
 }
 
 /// The sides that are measured.
-const SIDES: usize = 5;
-const NAMES: [&str; SIDES] = ["judge", "Rust", "direct", "decoded", "each"];
+const SIDES: usize = 6;
+const NAMES: [&str; SIDES] = ["judge", "Rust", "direct", "decoded", "each", "push"];
 
 fn run(side: usize, row: &Row, buffers: &mut Buffers) -> u64 {
     let mut kept = Vec::with_capacity(row.traces.len());
@@ -96,7 +98,8 @@ fn run(side: usize, row: &Row, buffers: &mut Buffers) -> u64 {
             1 => kept.push(sides::rust(TENANT, &trace.bytes)),
             2 => kept.push(sides::rust_direct(TENANT, &trace.bytes)),
             3 => kept.push(sides::rust_decoded(TENANT, &trace.events)),
-            _ => kept.push(sides::rust_each(TENANT, &trace.bytes)),
+            4 => kept.push(sides::rust_each(TENANT, &trace.bytes)),
+            _ => buffers.push(TENANT, &trace.bytes),
         }
     }
     let time = clock::now() - from;
@@ -186,7 +189,7 @@ fn main() {
         }
     }
     println!("| trace | records | faults | {} | judge/Rust | judge/direct |", NAMES.join(" | "));
-    println!("|---|---|---|---|---|---|---|---|---|---|");
+    println!("|---|---|---|---|---|---|---|---|---|---|---|");
     for row in &rows {
         print(row, rounds, capacity, loose);
     }

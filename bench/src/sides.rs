@@ -23,21 +23,48 @@ unsafe extern "C" {
         out: *mut u64,
         out_length: usize,
     ) -> u64;
+
+    fn petalchurn_open(
+        tenant: u64,
+        log: *const u8,
+        log_length: usize,
+        work: *mut u64,
+        work_length: usize,
+        state: *mut u64,
+        state_length: usize,
+    ) -> u64;
+
+    #[allow(clippy::too_many_arguments)]
+    fn petalchurn_push(
+        state: *mut u64,
+        state_length: usize,
+        log: *mut u8,
+        log_length: usize,
+        work: *mut u64,
+        work_length: usize,
+        rec: *const u8,
+        rec_length: usize,
+    ) -> u64;
 }
 
 /// How many words an answer has: records taken, the refused record, eight reports of seven.
 const ANSWER: usize = 58;
+
+/// How many words a judge has: capacity, count, tenant, eight reports of seven.
+const STATE: usize = 59;
 
 /// The buffers that a host lends the judge, for one capacity.
 pub struct Buffers {
     log: Vec<u8>,
     work: Vec<u64>,
     out: [u64; ANSWER],
+    state: [u64; STATE],
 }
 
 impl Buffers {
     pub fn new(capacity: usize) -> Buffers {
-        Buffers { log: vec![0; RECORD * capacity], work: vec![0; 32 * capacity], out: [0; ANSWER] }
+        let (log, work) = (vec![0; RECORD * capacity], vec![0; 32 * capacity]);
+        Buffers { log, work, out: [0; ANSWER], state: [0; STATE] }
     }
 
     /// Judges a trace. The call opens the judge, which clears the work area.
@@ -59,17 +86,55 @@ impl Buffers {
         black_box(&self.out);
     }
 
+    /// The same record by record: opens a judge and pushes each, its words kept between the calls.
+    pub fn push(&mut self, tenant: u64, trace: &[u8]) {
+        let (log, work, state) = (&mut self.log, &mut self.work, &mut self.state);
+        let refusal = unsafe {
+            petalchurn_open(
+                tenant,
+                log.as_ptr(),
+                log.len(),
+                work.as_mut_ptr(),
+                work.len(),
+                state.as_mut_ptr(),
+                STATE,
+            )
+        };
+        assert_eq!(refusal, 0, "an opening was refused");
+        for record in trace.chunks(RECORD) {
+            let refusal = unsafe {
+                petalchurn_push(
+                    state.as_mut_ptr(),
+                    STATE,
+                    log.as_mut_ptr(),
+                    log.len(),
+                    work.as_mut_ptr(),
+                    work.len(),
+                    record.as_ptr(),
+                    record.len(),
+                )
+            };
+            assert_eq!(refusal, 0, "a record was refused");
+        }
+        black_box(&self.state);
+    }
+
     /// The eight reports of the last trace, and how many records it took.
     pub fn answer(&self) -> (u64, Reports) {
-        let report = |check: usize| {
-            let words = &self.out[2 + 7 * check..9 + 7 * check];
-            Report {
-                kind: words[0] as u8,
-                position: words[1],
-                evidence: std::array::from_fn(|i| words[2 + i]),
-            }
-        };
-        (self.out[0], std::array::from_fn(report))
+        (self.out[0], std::array::from_fn(|check| report(&self.out[2 + 7 * check..])))
+    }
+
+    /// The same of the last trace that was pushed.
+    pub fn pushed(&self) -> (u64, Reports) {
+        (self.state[1], std::array::from_fn(|check| report(&self.state[3 + 7 * check..])))
+    }
+}
+
+fn report(words: &[u64]) -> Report {
+    Report {
+        kind: words[0] as u8,
+        position: words[1],
+        evidence: std::array::from_fn(|i| words[2 + i]),
     }
 }
 
