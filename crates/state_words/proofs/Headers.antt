@@ -1,15 +1,14 @@
 -- Words and the rows after their header. Assumes nothing.
 use mathlib.Core.Path.{_≡_, refl, sym, ap, _∙_, subst}
-use mathlib.Core.List.{List, _∷_}
+use mathlib.Core.List.{List, [], _∷_, _++_, append-nil}
 use Prim.Native.Nat.{ℕ, zero, suc, _+_, _*_, _≤_, _<_}
 use native.Mathlib.Omega.{arith}
-use lib.ListN.{length, getD, drop, length-drop}
-use lib.Seq.{drop-cons, getD-drop}
+use lib.ListN.{length, getD, take, drop, set, length-drop, drop-of-length-le, take-append-drop}
+use lib.Seq.{drop-cons, getD-drop, take-all}
 use Rattle.rules.specs.declared.Opening.{Opening}
 use Rattle.rules.specs.declared.Report.{Report}
-use Rattle.rows.specs.Rows.{rowsSize, rowsOf, verdictIn, reportIn, reportsFrom, reportsIn, KindsFit}
+use Rattle.rows.specs.Rows.{rowsSize, verdictIn, reportIn, reportsFrom, reportsIn, KindsFit}
 use Rattle.rows.proofs.ReadBack.{rows-read}
-use Rattle.judge.specs.declared.state.Judge.{Judge}
 use Rattle.judge.specs.Traces.{judgeBy}
 use Rattle.rules.specs.Checks.{checkCount}
 use Rattle.state_words.specs.StateWords.{headerSize, stateSize, stateWords, judgeIn}
@@ -57,10 +56,13 @@ openingIn words = record { tenant = getD words 2 0 }
 -- the judge read from words is that of the header's numbers and the rows
 pub judge-by : (words : List ℕ) → judgeBy (openingIn words) (getD words 0 0) (getD words 1 0) (drop headerSize words) ≡ judgeIn words
 unfolding judgeIn
-judge-by words = ap (λ (rs : List Report). record { capacity = getD words 0 0; count = getD words 1 0; opening = openingIn words; reports = rs }) (reports-rows words)
+judge-by words =
+    ap (λ (rs : List Report). record { capacity = getD words 0 0; count = getD words 1 0; opening = openingIn words; reports = rs })
+    (reports-rows words)
 
 -- the words of such a judge are the header's numbers and the rows
-pub words-by : (cap n tenant : ℕ) (rows : List ℕ) → length rows ≡ rowsSize → cap ∷ n ∷ tenant ∷ rows ≡ stateWords (judgeBy (record { tenant = tenant }) cap n rows)
+pub words-by : (cap n tenant : ℕ) (rows : List ℕ) → length rows ≡ rowsSize
+    → cap ∷ n ∷ tenant ∷ rows ≡ stateWords (judgeBy (record { tenant = tenant }) cap n rows)
 unfolding stateWords
 words-by cap n tenant rows s = ap (λ (t : List ℕ). cap ∷ n ∷ tenant ∷ t) (rows-read rows s)
 
@@ -74,3 +76,47 @@ header-read words h =
 
 pub rows-size : (words : List ℕ) → length words ≡ stateSize → length (drop headerSize words) ≡ rowsSize
 rows-size words h = let d = length-drop headerSize words in omega arith
+
+-- ---- the rows as a part of the words, lent to be altered
+
+-- the part past the header, and the words with other rows in its place
+abbrev pub rowsPart : List ℕ → List ℕ
+rowsPart words = take rowsSize (drop headerSize words)
+
+abbrev pub withRows : List ℕ → List ℕ → List ℕ
+withRows words rows = take headerSize words ++ (rows ++ drop rowsSize (drop headerSize words))
+
+module _ (words : List ℕ) (size : length words ≡ stateSize) where
+  part-rows : rowsPart words ≡ drop headerSize words
+  part-rows = let n = rows-size words size in take-all rowsSize (drop headerSize words) (omega arith)
+
+  pub part-size : length (rowsPart words) ≡ rowsSize
+  part-size = ap length part-rows ∙ rows-size words size
+
+  -- the judge of the header's numbers and the part is the one that the words stand for
+  pub judge-part : judgeBy (openingIn words) (getD words 0 0) (getD words 1 0) (rowsPart words) ≡ judgeIn words
+  judge-part = ap (judgeBy (openingIn words) (getD words 0 0) (getD words 1 0)) part-rows ∙ judge-by words
+
+  -- with the part as it was, the words are as they were
+  pub with-same : {rows : List ℕ} → rows ≡ rowsPart words → withRows words rows ≡ words
+  with-same e =
+      ap (withRows words) e
+      ∙ ap (λ (t : List ℕ). take headerSize words ++ t) (take-append-drop rowsSize (drop headerSize words))
+      ∙ take-append-drop headerSize words
+
+  with-read : (rows : List ℕ) → withRows words rows ≡ getD words 0 0 ∷ getD words 1 0 ∷ getD words 2 0 ∷ rows
+  with-read rows =
+      let n = rows-size words size in
+      let none : drop rowsSize (drop headerSize words) ≡ [] = drop-of-length-le (drop headerSize words) {i = rowsSize} (omega arith) in
+      let header : take headerSize words ≡ getD words 0 0 ∷ getD words 1 0 ∷ getD words 2 0 ∷ [] = ap (take headerSize) (header-read words (omega arith)) in
+      ap (λ (t : List ℕ). take headerSize words ++ (rows ++ t)) none
+      ∙ ap (λ (t : List ℕ). take headerSize words ++ t) (append-nil rows)
+      ∙ ap (λ (t : List ℕ). t ++ rows) header
+
+  pub with-size : (rows : List ℕ) → length rows ≡ rowsSize → length (withRows words rows) ≡ stateSize
+  with-size rows e = let l = ap length (with-read rows) in omega arith
+
+  -- with other rows and another count they are those of the judge of these
+  pub with-count : (rows : List ℕ) (n : ℕ) → length rows ≡ rowsSize
+      → set (withRows words rows) 1 n ≡ stateWords (judgeBy (openingIn words) (getD words 0 0) n rows)
+  with-count rows n e = ap (λ (l : List ℕ). set l 1 n) (with-read rows) ∙ words-by (getD words 0 0) n (getD words 2 0) rows e

@@ -18,7 +18,7 @@ use Rattle.rules.specs.Reports.{passed, reportOf}
 use Rattle.rules.specs.Checks.{Check, checks, checkCount, caseAt, reportBy, reportsOf, Every}
 use Rattle.rules.proofs.Booleans.{and-left, and-right, both}
 use Rattle.rules.proofs.CaseKinds.{CaseKinds, case-kinds, VerdictWithin, report-kinds}
-use Rattle.rows.specs.Rows.{rowsSize, kindWord, rowsOf, reportsIn, KindsFit}
+use Rattle.rows.specs.Rows.{kindWord, rowsOf, reportsIn, KindsFit}
 use Rattle.rows.proofs.Rows.{length-rows}
 use Rattle.rows.proofs.ReadBack.{fit-kinds, fit-rows}
 use Rattle.intake.specs.Words.{Indexed}

@@ -1,7 +1,7 @@
 -- Words read as a judge are that judge's words, and the test of words as facts. Assumes nothing.
 use mathlib.Core.Path.{_≡_, refl, sym, ap, _∙_}
 use mathlib.Core.Bool.{Bool, true, false, cond, _&&_}
-use mathlib.Core.List.{List, [], _∷_}
+use mathlib.Core.List.{List, _∷_}
 use mathlib.Core.Option.{none, some}
 use Prim.Native.Nat.{ℕ, _*_}
 use native.Mathlib.Omega.{arith}
@@ -30,7 +30,12 @@ words-read words h =
 
 -- a judge is read: the header's numbers, and the reports past it
 pub judge-read : (words : List ℕ) {rs : List Report} → rs ≡ reportsIn words headerSize
-    → _≡_ {A = Judge} (record { capacity = getD words 0 0; count = getD words 1 0; opening = record { tenant = getD words 2 0 }; reports = rs }) (judgeIn words)
+    → _≡_ {A = Judge} (record {
+      capacity = getD words 0 0;
+      count = getD words 1 0;
+      opening = record { tenant = getD words 2 0 };
+      reports = rs;
+    }) (judgeIn words)
 unfolding judgeIn
 judge-read words e = λ i. record {
   capacity = getD words 0 0;

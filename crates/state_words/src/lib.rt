@@ -12,6 +12,12 @@ ghost use Rattle.state_words.specs.StateWords.{stateSize, stateWords, ju
 // The words before the reports: capacity, count, tenant.
 pub const HEADER: usize = 3;
 
+pub const CAPACITY_WORD: usize = 0;
+
+pub const COUNT_WORD: usize = 1;
+
+pub const TENANT_WORD: usize = 2;
+
 // The words of a judge.
 pub const STATE_WORDS: usize = HEADER + ROWS;
 
@@ -32,9 +38,11 @@ pub fn read_state(state: &[u64]) -> Judge
 {
     let reports = read_rows(state, HEADER);
     Judge {
-        capacity: state[0] as usize,
-        count: state[1] as usize,
-        opening: Opening { tenant: state[2] },
+        capacity: state[CAPACITY_WORD] as usize,
+        count: state[COUNT_WORD] as usize,
+        opening: Opening {
+            tenant: state[TENANT_WORD],
+        },
         reports: reports,
     }
 }
@@ -46,8 +54,8 @@ pub fn write_state(state: &mut [u64], judge: Judge)
 {
     let reports = judge.reports;
     let opening = judge.opening;
-    state[0] = judge.capacity as u64;
-    state[1] = judge.count as u64;
-    state[2] = opening.tenant;
+    state[CAPACITY_WORD] = judge.capacity as u64;
+    state[COUNT_WORD] = judge.count as u64;
+    state[TENANT_WORD] = opening.tenant;
     write_rows(state, HEADER, reports);
 }
