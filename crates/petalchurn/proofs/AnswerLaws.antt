@@ -17,9 +17,9 @@ use Rattle.judge.specs.declared.state.Judge.{Judge}
 use Rattle.judge.specs.States.{refusalNumber}
 use Rattle.judge.specs.Lookups.{valueOf, wordsOf, lends, LookedBy}
 use Rattle.petalchurn.specs.declared.answer.Answer.{Answer}
-use Rattle.petalchurn.specs.StateWords.{judgeIn, isState}
+use Rattle.state_words.specs.StateWords.{judgeIn, isState}
 use Rattle.petalchurn.specs.Lookups.{answerOf, LooksWords}
-use Rattle.petalchurn.proofs.States.{fit-of, some-state, none-state}
+use Rattle.state_words.proofs.States.{fit-of, some-state, none-state}
 
 pub answer-kept : (n v : ℕ) → n ≡ 0 → _≡_ {A = Answer} (record { refusal = n; value = v }) (answerOf n v)
 answer-kept n v h = ap (λ (b : Bool). record { refusal = n; value = cond b v 0 }) (sym (eq-eqb n 0 h))

@@ -2,40 +2,55 @@
 use mathlib.Core.Path.{_≡_, refl, sym, ap, _∙_, subst}
 use mathlib.Core.Bool.{Bool, true, false, cond}
 use mathlib.Core.List.{List, _∷_, _++_}
-use mathlib.Core.Option.{none}
+use mathlib.Core.Option.{none, some}
 use Prim.Native.Nat.{ℕ, _+_, _*_, _≤_, _<_}
 use native.Mathlib.Omega.{arith}
-use lib.ListN.{length, drop, set}
+use lib.ListN.{length, getD, drop, set}
 use lib.Seq.{sets}
 use lib.Dec.{eqb}
-use borrow.Author.Tests.{ne-eqb}
 use Rattle.record.proofs.Keys.{never}
+use Rattle.rules.specs.declared.Opening.{Opening}
 use Rattle.rules.specs.declared.Report.{Report}
+use Rattle.rules.specs.Reports.{passed}
+use Rattle.rules.specs.Checks.{checkCount}
+use Rattle.rows.specs.Rows.{rowsSize, reportWords, rowsOf}
+use Rattle.rows.proofs.Rows.{sets-front, length-rows}
+use Rattle.intake.specs.Refusals.{fitsBy}
+use Rattle.intake.specs.Words.{Indexed}
+use Rattle.intake.specs.Takes.{TakesIn}
 use Rattle.judge.specs.declared.answer.Reported.{Reported}
 use Rattle.judge.specs.declared.opening.Opened.{Opened}
-use Rattle.judge.specs.declared.push.Pushed.{Pushed}
 use Rattle.judge.specs.declared.state.Judge.{Judge}
 use Rattle.judge.specs.declared.trace.Traced.{Traced}
-use Rattle.judge.specs.States.{State, fitsBy, refusalNumber, pushRefusal}
+use Rattle.judge.specs.States.{refusalNumber, pushRefusal}
 use Rattle.judge.specs.Openings.{Opens}
 use Rattle.judge.specs.Answers.{reportNo, ReportedBy}
-use Rattle.judge.specs.Runs.{PushedBy, stateOf}
-use Rattle.judge.specs.Traces.{TracedBy}
-use Rattle.rules.specs.Reports.{passed}
-use Rattle.petalchurn.specs.StateWords.{reportWords, rowsOf, stateWords, judgeIn, isState}
-use Rattle.petalchurn.specs.Calls.{OpensWords, PushesWords, ReportsWords, traceWords, TracesWords}
-use Rattle.petalchurn.proofs.Rows.{sets-front, length-rows}
-use Rattle.petalchurn.proofs.States.{words-read, state-facts, fit-of, some-state, none-state}
+use Rattle.judge.specs.Runs.{Pushed, stateOf}
+use Rattle.judge.specs.Traces.{judgeBy, TracedBy}
+use Rattle.judge.proofs.Pushes.{RowsOf, push-number, push-taken, push-refused, rows-own}
+use Rattle.state_words.specs.StateWords.{stateSize, stateWords, judgeIn, isState, stateIn}
+use Rattle.state_words.proofs.Headers.{openingIn, rowsPart, withRows, part-size, judge-part, with-same, with-count}
+use Rattle.state_words.proofs.States.{state-facts, fit-of, some-state, none-state, state-words}
+use Rattle.petalchurn.specs.Calls.{reportSize, traceSize, OpensWords, PushesWords, ReportsWords, traceWords, TracesWords}
+
+-- ---- the sizes of what is written
+
+pub report-size : (r : Report) → length (reportWords r) ≡ reportSize
+report-size r = refl
+
+pub trace-size : (t : Traced) → length (t .judge .reports) ≡ checkCount → length (traceWords t) ≡ traceSize
+unfolding traceWords
+trace-size t e = let n = length-rows (t .judge .reports) ∙ ap (λ (k : ℕ). 7 * k) e in omega arith
 
 -- ---- opening
 
-module _ (tenant : ℕ) (log work state : List ℕ) where
-  pub open-short : (length state ≡ 59 → ⊥) → OpensWords tenant log work state 8 work state
+module _ (o : Opening) (log work state : List ℕ) where
+  pub open-short : (length state ≡ stateSize → ⊥) → OpensWords o log work state 8 work state
   open-short n = record { short = λ x. (refl, refl, refl); refused = λ h none. absurd (n h); opened = λ h c x. absurd (n h) }
 
-  pub open-done : (o : Opened) {r : ℕ} {work′ state′ : List ℕ} → length state ≡ 59 → Opens tenant (length log) work o work′
-      → state′ ≡ stateWords (o .judge) → r ≡ refusalNumber (o .refusal) → OpensWords tenant log work state r work′ state′
-  open-done o h q s e = record {
+  pub open-done : (p : Opened) {r : ℕ} {work′ state′ : List ℕ} → length state ≡ stateSize → Opens o (length log) work p work′
+      → state′ ≡ stateWords (p .judge) → r ≡ refusalNumber (p .refusal) → OpensWords o log work state r work′ state′
+  open-done p h q s e = record {
     short = λ n. absurd (n h);
     refused = λ g none. let x = q .refused none in (e ∙ x .0, x .2, s ∙ ap stateWords (x .1));
     opened = λ g c f. let x = q .opened c f in (e ∙ x .0, x .2, s ∙ ap stateWords (x .1));
@@ -47,25 +62,60 @@ module _ (state log work bytes : List ℕ) where
   pub push-unfit : isState state ≡ false → PushesWords state log work bytes 5 state log work
   push-unfit t = record { unfit = λ e. refl; fit = λ j e. never (some-state state e) t; untouched = λ z. (refl, refl, refl) }
 
-  -- the judge that a refused push hands back is the one given, and so its words are those given
-  push-left : (p : Pushed) {j : Judge} {state′ log′ work′ : List ℕ} → isState state ≡ true → j ≡ judgeIn state
-      → PushedBy j log work bytes p log′ work′ → state′ ≡ stateWords (p .judge) → (refusalNumber (p .refusal) ≡ 0 → ⊥)
-      → (state′ ≡ state) × (log′ ≡ log) × (work′ ≡ work)
-  push-left p {j} t g q s z =
-      let l = q .leaves .refused (ne-eqb (pushRefusal (stateOf j log work) bytes) 0 (λ x. z (q .refusal ∙ x))) in (
-        s ∙ ap (λ (u : State). stateWords (u .judge)) l ∙ ap stateWords g ∙ sym (words-read state (state-facts state t .size)),
-        ap (λ (u : State). u .log) l,
-        ap (λ (u : State). u .work) l,
-      )
+  -- the core's answer on the state's own words
+  module _ (t : isState state ≡ true) {r : ℕ} {log′ work′ rows′ : List ℕ}
+      (p : TakesIn (openingIn state) (getD state 0 0) (getD state 1 0) log work (rowsPart state) bytes r log′ work′ rows′) where
+    size : length state ≡ stateSize
+    size = state-facts state t .size
 
-  pub push-done : (p : Pushed) {j : Judge} {r : ℕ} {state′ log′ work′ : List ℕ} → isState state ≡ true → j ≡ judgeIn state
-      → PushedBy j log work bytes p log′ work′ → state′ ≡ stateWords (p .judge) → r ≡ refusalNumber (p .refusal)
-      → PushesWords state log work bytes r state′ log′ work′
-  push-done p {log′ = log′} {work′ = work′} t g q s e = record {
-    unfit = λ n. never t (none-state state n);
-    fit = λ k f. (p, subst (λ (i : Judge). PushedBy i log work bytes p log′ work′) (g ∙ fit-of state t f) q, e, s);
-    untouched = λ z. push-left p t g q s (λ x. z (e ∙ x));
-  }
+    -- the judge of the state's numbers and rows
+    abbrev own : Judge
+    own = judgeBy (openingIn state) (getD state 0 0) (getD state 1 0) (rowsPart state)
+
+    are : RowsOf own (rowsPart state)
+    are = rows-own (openingIn state) (getD state 0 0) (getD state 1 0) (rowsPart state) (part-size state size)
+
+    own-is : {j : Judge} → stateIn state ≡ some j → own ≡ j
+    own-is e = judge-part state size ∙ fit-of state t e
+
+    number : {j : Judge} → stateIn state ≡ some j → r ≡ pushRefusal (stateOf j log work) bytes
+    number e = push-number own log work (rowsPart state) bytes are p ∙ ap (λ (i : Judge). pushRefusal (stateOf i log work) bytes) (own-is e)
+
+    pub rows-left : length rows′ ≡ rowsSize
+    rows-left = p .size ∙ part-size state size
+
+    -- refused: the words are those given
+    pub push-left : (r ≡ 0 → ⊥) → PushesWords state log work bytes r (withRows state rows′) log′ work′
+    push-left z =
+        let l = p .refused z in
+        let same : withRows state rows′ ≡ state = with-same state size (l .2) in
+        record {
+          unfit = λ n. never t (none-state state n);
+          fit = λ j e. record {
+            refusal = number e;
+            judge = j;
+            leaves = subst (λ (i : Judge). Pushed Indexed (stateOf i log work) bytes (stateOf i log′ work′)) (own-is e)
+                (push-refused own log work (rowsPart state) bytes are p z);
+            words = same ∙ state-words state j e;
+          };
+          untouched = λ n. (same, l .0, l .1);
+        }
+
+    -- taken: the words are those of the judge with the rows that the core left, and one more in the count
+    pub push-done : r ≡ 0 → PushesWords state log work bytes r (set (withRows state rows′) 1 (getD state 1 0 + 1)) log′ work′
+    push-done z =
+        let next : Judge = judgeBy (openingIn state) (getD state 0 0) (getD state 1 0 + 1) rows′ in
+        record {
+          unfit = λ n. never t (none-state state n);
+          fit = λ j e. record {
+            refusal = number e;
+            judge = next;
+            leaves = subst (λ (i : Judge). Pushed Indexed (stateOf i log work) bytes (stateOf next log′ work′)) (own-is e)
+                (push-taken own log work (rowsPart state) bytes are p z);
+            words = with-count state size rows′ (getD state 1 0 + 1) rows-left;
+          };
+          untouched = λ n. absurd (n z);
+        }
 
 -- ---- a report
 
@@ -104,7 +154,7 @@ module _ (state : List ℕ) (k : ℕ) (out : List ℕ) where
           given = λ i x f l. never f (sym (fits-at i (fit-of state t x)) ∙ b .0);
         }
 
-    pub report-short : n ≡ 0 → length out < 7 → ReportsWords state k out 8 out
+    pub report-short : n ≡ 0 → length out < reportSize → ReportsWords state k out 8 out
     report-short z s =
         let b = given-by (fitsBy (j .capacity) (j .count)) (e ∙ q .refusal) z in
         record {
@@ -115,7 +165,7 @@ module _ (state : List ℕ) (k : ℕ) (out : List ℕ) where
           given = λ i x f l. absurd (omega arith);
         }
 
-    pub report-done : {out′ : List ℕ} → n ≡ 0 → 7 ≤ length out → out′ ≡ sets out 0 (reportWords (p .report)) → ReportsWords state k out 0 out′
+    pub report-done : {out′ : List ℕ} → n ≡ 0 → reportSize ≤ length out → out′ ≡ sets out 0 (reportWords (p .report)) → ReportsWords state k out 0 out′
     report-done z s w =
         let b = given-by (fitsBy (j .capacity) (j .count)) (e ∙ q .refusal) z in
         let r : p .report ≡ reportNo (j .reports) k = q .report ∙ ap (λ (x : Bool). cond x (reportNo (j .reports) k) passed) b in
@@ -127,29 +177,29 @@ module _ (state : List ℕ) (k : ℕ) (out : List ℕ) where
           given = λ i x f l. (
             refl,
             w ∙ sets-front out (reportWords (p .report)) s
-                ∙ ap (λ (y : Report). reportWords y ++ drop 7 out) (r ∙ ap (λ (y : Judge). reportNo (y .reports) k) (g ∙ fit-of state t x)),
+                ∙ ap (λ (y : Report). reportWords y ++ drop reportSize out) (r ∙ ap (λ (y : Judge). reportNo (y .reports) k) (g ∙ fit-of state t x)),
           );
         }
 
 -- ---- a whole trace
 
 -- two stores and the rows from the third word on write a trace's words at the front of a list
-pub trace-written : (out : List ℕ) (t : Traced) {n m : ℕ} → 58 ≤ length out → length (t .judge .reports) ≡ 8 → n ≡ t .judge .count
+pub trace-written : (out : List ℕ) (t : Traced) {n m : ℕ} → traceSize ≤ length out → length (t .judge .reports) ≡ checkCount → n ≡ t .judge .count
     → m ≡ cond (eqb (refusalNumber (t .refusal)) 0) 0 (t .at)
-    → sets (set (set out 0 n) 1 m) 2 (rowsOf (t .judge .reports)) ≡ traceWords t ++ drop 58 out
+    → sets (set (set out 0 n) 1 m) 2 (rowsOf (t .judge .reports)) ≡ traceWords t ++ drop traceSize out
 unfolding traceWords
 trace-written out t {n} {m} h e a b =
-    let z : length (rowsOf (t .judge .reports)) ≡ 56 = length-rows (t .judge .reports) ∙ ap (λ (k : ℕ). 7 * k) e in
-    let y : length (n ∷ m ∷ rowsOf (t .judge .reports)) ≡ 58 = omega arith in
+    let z : length (rowsOf (t .judge .reports)) ≡ rowsSize = length-rows (t .judge .reports) ∙ ap (λ (k : ℕ). 7 * k) e in
+    let y : length (n ∷ m ∷ rowsOf (t .judge .reports)) ≡ traceSize = omega arith in
     sets-front out (n ∷ m ∷ rowsOf (t .judge .reports)) (omega arith)
     ∙ ap (λ (k : ℕ). (n ∷ m ∷ rowsOf (t .judge .reports)) ++ drop k out) y
-    ∙ ap (λ (x : ℕ). (x ∷ m ∷ rowsOf (t .judge .reports)) ++ drop 58 out) a
-    ∙ ap (λ (x : ℕ). (t .judge .count ∷ x ∷ rowsOf (t .judge .reports)) ++ drop 58 out) b
+    ∙ ap (λ (x : ℕ). (x ∷ m ∷ rowsOf (t .judge .reports)) ++ drop traceSize out) a
+    ∙ ap (λ (x : ℕ). (t .judge .count ∷ x ∷ rowsOf (t .judge .reports)) ++ drop traceSize out) b
 
-module _ (tenant : ℕ) (log work trace out : List ℕ) where
-  pub trace-short : length out < 58 → TracesWords tenant log work trace out 8 log work out
+module _ (o : Opening) (log work trace out : List ℕ) where
+  pub trace-short : length out < traceSize → TracesWords o log work trace out 8 log work out
   trace-short h = record { short = λ x. (refl, refl, refl, refl); traced = λ x. absurd (omega arith) }
 
-  pub trace-done : (t : Traced) {r : ℕ} {log′ work′ out′ : List ℕ} → 58 ≤ length out → TracedBy tenant log work trace t log′ work′
-      → r ≡ refusalNumber (t .refusal) → out′ ≡ traceWords t ++ drop 58 out → TracesWords tenant log work trace out r log′ work′ out′
+  pub trace-done : (t : Traced) {r : ℕ} {log′ work′ out′ : List ℕ} → traceSize ≤ length out → TracedBy o log work trace t log′ work′
+      → r ≡ refusalNumber (t .refusal) → out′ ≡ traceWords t ++ drop traceSize out → TracesWords o log work trace out r log′ work′ out′
   trace-done t h q e w = record { short = λ x. absurd (omega arith); traced = λ x. (t, q, e, w) }

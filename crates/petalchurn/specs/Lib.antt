@@ -1,5 +1,4 @@
--- The interface for C and Rust hosts: a judge as words, what each call promises, and what is claimed of a run of calls.
-pub mod StateWords
+-- The interface for C and Rust hosts: what each call promises of a judge's words, and what is claimed of a run of calls.
 pub mod Calls
 pub mod Lookups
 pub mod Runs

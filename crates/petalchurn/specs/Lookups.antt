@@ -12,10 +12,10 @@ use Rattle.history.specs.Logs.{hist}
 use Rattle.ids_unique.specs.Answers.{tooShort}
 use Rattle.judge.specs.declared.lookup.Question.{Question}
 use Rattle.judge.specs.declared.state.Judge.{Judge}
-use Rattle.judge.specs.Words.{Indexed}
+use Rattle.intake.specs.Words.{Indexed}
 use Rattle.judge.specs.Lookups.{valueOf, wordsOf, writes, lends}
 use Rattle.petalchurn.specs.declared.answer.Answer.{Answer}
-use Rattle.petalchurn.specs.StateWords.{stateIn}
+use Rattle.state_words.specs.StateWords.{stateIn}
 
 -- an answer with a refusal's number: the value is 0 unless that is 0
 abbrev pub answerOf : ℕ → ℕ → Answer

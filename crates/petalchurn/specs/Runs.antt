@@ -1,4 +1,4 @@
--- A host's run, an opening and then pushes by the library, and what is claimed of it; and what is claimed of a whole trace.
+-- A host's run, an opening and then calls of the library, and what is claimed of it; and what is claimed of a whole trace.
 use mathlib.Core.Path.{_≡_}
 use mathlib.Core.Bool.{cond}
 use mathlib.Core.List.{List, [], _∷_, _++_}
@@ -6,18 +6,22 @@ use mathlib.Core.Option.{some}
 use Prim.Native.Nat.{ℕ, suc, _+_, _≤_, _<_}
 use lib.ListN.{length, getD, drop}
 use lib.Dec.{eqb}
+use Rattle.rules.specs.declared.Opening.{Opening}
 use Rattle.rules.specs.History.{History}
 use Rattle.rules.specs.Reports.{passed}
+use Rattle.rules.specs.Checks.{checkCount, reportsOf}
+use Rattle.rows.specs.Rows.{reportWords, rowsOf}
+use Rattle.intake.specs.Words.{Indexed}
 use Rattle.judge.specs.declared.lookup.Question.{Question}
 use Rattle.judge.specs.declared.state.Judge.{Judge}
-use Rattle.judge.specs.States.{State, reportsOf}
-use Rattle.judge.specs.Words.{Indexed}
+use Rattle.judge.specs.States.{State}
+use Rattle.judge.specs.Calls.{Call, push, refusalAfter}
 use Rattle.judge.specs.Runs.{stateOf, Demand3}
 use Rattle.judge.specs.Demand2.{Demand2}
-use Rattle.judge.specs.Pieces.{refusalAfter, soundPieces, firstRefusal, recordsTaken}
+use Rattle.judge.specs.Pieces.{soundPieces, firstRefusal, recordsTaken}
+use Rattle.state_words.specs.StateWords.{judgeIn, stateIn}
 use Rattle.petalchurn.specs.declared.answer.Answer.{Answer}
-use Rattle.petalchurn.specs.StateWords.{reportWords, rowsOf, judgeIn, stateIn}
-use Rattle.petalchurn.specs.Calls.{PushesWords, ReportsWords}
+use Rattle.petalchurn.specs.Calls.{reportSize, traceSize, PushesWords, ReportsWords}
 use Rattle.petalchurn.specs.Lookups.{AnswersWords, LooksWords}
 
 -- the three buffers that a host keeps between calls
@@ -30,24 +34,27 @@ pub record Buffers : Type 0 where
 abbrev pub stateAt : Buffers → State
 stateAt b = stateOf (judgeIn (b .state)) (b .log) (b .work)
 
--- a list of calls of `petalchurn_push`: each gets the buffers as the last one left them, and any bytes as its record, and whatever
--- it gives, refused or not, the next one follows
-pub data Pushes : Buffers → List (List ℕ) → Buffers → Type 0 where
-  none : {b : Buffers} → Pushes b [] b
-  more : {a b z : Buffers} {bytes : List ℕ} {ps : List (List ℕ)} {r : ℕ}
-      → PushesWords (a .state) (a .log) (a .work) bytes r (b .state) (b .log) (b .work) → Pushes b ps z → Pushes a (bytes ∷ ps) z
+-- what a call of the library leaves of them, by what it promises: a push is one of `petalchurn_push`
+abbrev pub CalledWords : Buffers → Call → ℕ → Buffers → Type 0
+CalledWords a (push bytes) r b = PushesWords (a .state) (a .log) (a .work) bytes r (b .state) (b .log) (b .work)
 
--- of the buffers after pushes that took the records of h, in a judge of capacity c: they hold a judge, of which the second and third
--- demands hold; the number that a further push returns is the table's; each of the eight reports is given, in seven words, and is
--- that of the rules; and so is the answer to every question, none refused by 5, and by 8 only where the list is too short for it
-pub record LibraryDemands (tenant c : ℕ) (h : History) (z : Buffers) : Type 0 where
+-- a list of calls: each gets the buffers as the last one left them, and any bytes as its record, and whatever it gives, refused or
+-- not, the next one follows
+pub data HostCalls : Buffers → List Call → Buffers → Type 0 where
+  none : {b : Buffers} → HostCalls b [] b
+  more : {a b z : Buffers} {c : Call} {cs : List Call} (r : ℕ) → CalledWords a c r b → HostCalls b cs z → HostCalls a (c ∷ cs) z
+
+-- of the buffers after calls that took the records of h, in a judge of capacity c: they hold a judge, of which the second and third
+-- demands hold; the number that a further push returns is the table's; each of the reports is given, in its words, and is that of
+-- the rules; and so is the answer to every question, none refused by 5, and by 8 only where the list is too short for it
+pub record LibraryDemands (o : Opening) (c : ℕ) (h : History) (z : Buffers) : Type 0 where
   pub state : stateIn (z .state) ≡ some (judgeIn (z .state))
-  pub demand2 : Demand2 tenant h (stateAt z)
-  pub demand3 : Demand3 Indexed tenant h (stateAt z)
+  pub demand2 : Demand2 o h (stateAt z)
+  pub demand3 : Demand3 Indexed o h (stateAt z)
   pub pushed : (bytes : List ℕ) (r : ℕ) (state′ log′ work′ : List ℕ) → PushesWords (z .state) (z .log) (z .work) bytes r state′ log′ work′
-      → r ≡ refusalAfter c (length h) bytes
-  pub reported : (k : ℕ) (out : List ℕ) (r : ℕ) (out′ : List ℕ) → k < 8 → 7 ≤ length out → ReportsWords (z .state) (suc k) out r out′
-      → (r ≡ 0) × (out′ ≡ reportWords (getD (reportsOf tenant h) k passed) ++ drop 7 out)
+      → r ≡ refusalAfter c h bytes
+  pub reported : (k : ℕ) (out : List ℕ) (r : ℕ) (out′ : List ℕ) → k < checkCount → reportSize ≤ length out → ReportsWords (z .state) (suc k) out r out′
+      → (r ≡ 0) × (out′ ≡ reportWords (getD (reportsOf o h) k passed) ++ drop reportSize out)
   pub answered : (q : Question) (out out′ : List ℕ) (r : Answer) → LooksWords q (z .state) (z .log) (z .work) out out′ r
       → AnswersWords q h out out′ r
 
@@ -56,10 +63,10 @@ abbrev pub refusedPiece : ℕ → List ℕ → ℕ
 refusedPiece c trace = cond (eqb (firstRefusal c trace) 0) 0 (length (soundPieces c trace) + 1)
 
 -- what `petalchurn_trace` returns and writes, by the trace's bytes alone: the first refusal; the number of the pieces taken, that of
--- the refused one, and the eight reports of a judge of which the second and third demands hold, for the records of those pieces
-pub record LibraryTrace (tenant c : ℕ) (trace out : List ℕ) (r : ℕ) (log′ work′ out′ : List ℕ) : Type 0 where
+-- the refused one, and the reports of a judge of which the second and third demands hold, for the records of those pieces
+pub record LibraryTrace (o : Opening) (c : ℕ) (trace out : List ℕ) (r : ℕ) (log′ work′ out′ : List ℕ) : Type 0 where
   pub judge : Judge
   pub refusal : r ≡ firstRefusal c trace
-  pub words : out′ ≡ (length (soundPieces c trace) ∷ refusedPiece c trace ∷ rowsOf (judge .reports)) ++ drop 58 out
-  pub demand2 : Demand2 tenant (recordsTaken c trace) (stateOf judge log′ work′)
-  pub demand3 : Demand3 Indexed tenant (recordsTaken c trace) (stateOf judge log′ work′)
+  pub words : out′ ≡ (length (soundPieces c trace) ∷ refusedPiece c trace ∷ rowsOf (judge .reports)) ++ drop traceSize out
+  pub demand2 : Demand2 o (recordsTaken c trace) (stateOf judge log′ work′)
+  pub demand3 : Demand3 Indexed o (recordsTaken c trace) (stateOf judge log′ work′)

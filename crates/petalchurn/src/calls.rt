@@ -1,10 +1,18 @@
-// Opening a judge, pushing a record, and one of the eight reports.
-use crate::words::is_state;
-use crate::words::read_state;
-use crate::words::write_report;
-use crate::words::write_state;
+// Opening a judge, pushing a record, and one of the reports.
+use intake::take::take;
 use judge::state::Judge;
 use judge::state::number_of;
+use rows::REPORT_WORDS;
+use rows::write_report;
+use rules::Opening;
+use state_words::CAPACITY_WORD;
+use state_words::COUNT_WORD;
+use state_words::HEADER;
+use state_words::STATE_WORDS;
+use state_words::TENANT_WORD;
+use state_words::is_state;
+use state_words::read_state;
+use state_words::write_state;
 ghost use Rattle.petalchurn.specs.Calls.{OpensWords, PushesWords, ReportsWords};
 
 // Opens a judge over a log and a work area, and writes its words.
@@ -15,19 +23,21 @@ pub extern "C" fn petalchurn_open(
     work: &mut [u64],
     state: &mut [u64],
 ) -> u64
-    ensures { λ r. ⌜ OpensWords tenant (now (log .entry)) (now (work .entry)) (now (state .entry)) r (now (work .exit)) (now (state .exit)) ⌝ }
+    ensures { λ r. ⌜ OpensWords (record { tenant = tenant }) (now (log .entry)) (now (work .entry)) (now (state .entry)) r (now (work .exit)) (now (state .exit)) ⌝ }
 {
-    if state.len() != 59 {
+    if state.len() != STATE_WORDS {
         return 8;
     }
-    let opened = Judge::open(tenant, log, work);
+    let opening = Opening { tenant: tenant };
+    let opened = Judge::open(opening, log, work);
     let refusal = opened.refusal;
     let judge = opened.judge;
     write_state(state, judge);
     number_of(refusal)
 }
 
-// Takes a record, or says why not: then everything is as it stood.
+// Takes a record, or says why not: then everything is as it stood. The record is taken on the state's own words: a check's row, where
+// it has a new fault, and the count are written, and no other word of the state.
 #[no_mangle]
 pub extern "C" fn petalchurn_push(
     state: &mut [u64],
@@ -40,15 +50,26 @@ pub extern "C" fn petalchurn_push(
     if !is_state(state) {
         return 5;
     }
-    let judge = read_state(state);
-    let pushed = judge.push(log, work, rec);
-    let refusal = pushed.refusal;
-    let next = pushed.judge;
-    write_state(state, next);
-    number_of(refusal)
+    let cap = state[CAPACITY_WORD] as usize;
+    let n = state[COUNT_WORD] as usize;
+    let tenant = state[TENANT_WORD];
+    let refusal = take(
+        log,
+        work,
+        &mut state[HEADER..STATE_WORDS],
+        n,
+        cap,
+        tenant,
+        rec,
+    );
+    if refusal != 0 {
+        return refusal;
+    }
+    state[COUNT_WORD] = (n + 1) as u64;
+    refusal
 }
 
-// One of the eight reports, by its number in printing order.
+// One of the reports, by its number in printing order.
 #[no_mangle]
 pub extern "C" fn petalchurn_report(state: &[u64], k: u64, out: &mut [u64]) -> u64
     ensures { λ r. ⌜ ReportsWords (now (state .entry)) k (now (out .entry)) r (now (out .exit)) ⌝ }
@@ -63,7 +84,7 @@ pub extern "C" fn petalchurn_report(state: &[u64], k: u64, out: &mut [u64]) -> u
     if refusal != 0 {
         return refusal;
     }
-    if out.len() < 7 {
+    if out.len() < REPORT_WORDS {
         return 8;
     }
     let report = reported.report;

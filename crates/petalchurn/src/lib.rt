@@ -4,4 +4,3 @@ pub mod calls;
 pub mod lookups;
 pub mod trace;
 pub mod version;
-mod words;

@@ -1,10 +1,10 @@
 // The look-ups: one guarded function for every question, and its seven entries.
 use crate::answer::Answer;
 use crate::answer::answer_of;
-use crate::words::is_state;
-use crate::words::read_state;
 use judge::lookup::Question;
 use judge::state::number_of;
+use state_words::is_state;
+use state_words::read_state;
 ghost use mathlib.Core.List.{[]};
 ghost use Rattle.judge.specs.declared.lookup.Question.the-variants.{Before, At, FirstAtGeneration, Statements, IsEmpty, HoldersOf, Blocks};
 ghost use Rattle.petalchurn.specs.Lookups.{LooksWords};

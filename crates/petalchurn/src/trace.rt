@@ -1,8 +1,10 @@
 // A whole trace in one call.
-use crate::words::write_rows;
 use judge::state::Judge;
 use judge::state::number_of;
 use judge::trace::Traced;
+use rows::ROWS;
+use rows::write_rows;
+use rules::Opening;
 ghost use mathlib.Core.Path.{_≡_};
 ghost use mathlib.Core.Bool.{cond};
 ghost use mathlib.Core.List.{_++_};
@@ -10,7 +12,10 @@ ghost use Prim.Native.Nat.{_≤_};
 ghost use lib.ListN.{length, drop};
 ghost use lib.Dec.{eqb};
 ghost use Rattle.judge.specs.States.{refusalNumber};
-ghost use Rattle.petalchurn.specs.Calls.{traceWords, TracesWords};
+ghost use Rattle.petalchurn.specs.Calls.{traceSize, traceWords, TracesWords};
+
+// The words of a whole trace's answer: how many records were taken, the refused one's number, and the reports.
+pub const TRACE_WORDS: usize = 2 + ROWS;
 
 // The number of the refused record: 0 where nothing is refused.
 fn refused_at(refusal: u64, at: usize) -> u64
@@ -24,8 +29,8 @@ fn refused_at(refusal: u64, at: usize) -> u64
 
 // Writes what a trace came to at the front of a list, and gives the refusal's number.
 fn write_trace(out: &mut [u64], traced: Traced) -> u64
-    requires { ⌜ 58 ≤ length (now out) ⌝ }
-    ensures { λ r. ⌜ (r ≡ refusalNumber (traced .refusal)) × (now (out .exit) ≡ traceWords traced ++ drop 58 (now (out .entry))) ⌝ }
+    requires { ⌜ traceSize ≤ length (now out) ⌝ }
+    ensures { λ r. ⌜ (r ≡ refusalNumber (traced .refusal)) × (now (out .exit) ≡ traceWords traced ++ drop traceSize (now (out .entry))) ⌝ }
 {
     let judge = traced.judge;
     let reports = judge.reports;
@@ -46,11 +51,12 @@ pub extern "C" fn petalchurn_trace(
     trace: &[u8],
     out: &mut [u64],
 ) -> u64
-    ensures { λ r. ⌜ TracesWords tenant (now (log .entry)) (now (work .entry)) (now (trace .entry)) (now (out .entry)) r (now (log .exit)) (now (work .exit)) (now (out .exit)) ⌝ }
+    ensures { λ r. ⌜ TracesWords (record { tenant = tenant }) (now (log .entry)) (now (work .entry)) (now (trace .entry)) (now (out .entry)) r (now (log .exit)) (now (work .exit)) (now (out .exit)) ⌝ }
 {
-    if out.len() < 58 {
+    if out.len() < TRACE_WORDS {
         return 8;
     }
-    let traced = Judge::judge_trace(tenant, log, work, trace);
+    let opening = Opening { tenant: tenant };
+    let traced = Judge::judge_trace(opening, log, work, trace);
     write_trace(out, traced)
 }

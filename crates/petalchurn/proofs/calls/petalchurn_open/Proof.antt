@@ -7,7 +7,7 @@ use Rattle.petalchurn.proofs.calls.petalchurn_open.Tie as tie
 returns : tie.Need-returns
 returns c =
     let a = c .before .before .before .before .args in
-    open-short (a .tenant) (a .log .now) (a .work .now) (a .state .now) (c .if1 .taken)
+    open-short (record { tenant = a .tenant }) (a .log .now) (a .work .now) (a .state .now) (c .if1 .taken)
 
 open-requires : tie.Need-open-requires
 open-requires c κs = search needs
@@ -30,7 +30,7 @@ returns-2 c =
     let opened = written .before .before .before .before .before in
     let asked = opened .before .before in
     let a = asked .before .before .before .before .args in
-    open-done (a .tenant) (a .log .now) (a .work .now) (a .state .now) (opened .«open» .result) (asked .if1 .left) (opened .«open» .ensures)
+    open-done (record { tenant = a .tenant }) (a .log .now) (a .work .now) (a .state .now) (opened .«open» .result) (asked .if1 .left) (opened .«open» .ensures)
     (written .write-state .ensures) (c .number-of .ensures)
 
 pub petalchurn-open-spec : {M : Type 1} → statement M

@@ -1,7 +1,7 @@
 -- `petalchurn_report`: no state, a judge's numbers that are none, a list too short; else the report's words.
 use mathlib.Core.Path.{sym, _∙_}
 use borrow.Author.Tests.{not-true, not-false}
-use Rattle.petalchurn.proofs.States.{state-facts}
+use Rattle.state_words.proofs.States.{state-facts}
 use Rattle.petalchurn.proofs.CallLaws.{report-unfit, report-refused, report-short, report-done}
 use borrow.Author.Needs.{needs}
 use Rattle.petalchurn.proofs.calls.petalchurn_report.Statement.{statement}
@@ -62,7 +62,7 @@ returns-4 c =
     let some = sym (asked .is-state .ensures) ∙ not-false (asked .is-state .result) (read .before .if1 .left) in
     report-done (a .state .now) (a .k) (a .out .now) (numbered .before .report .result) some (read .read-state .ensures) (numbered .before .report .ensures)
     (numbered .number-of .ensures)
-    (written .before .before .before .before .if2 .left) (written .before .before .before .if3 .left) (written .write-report .ensures)
+    (written .before .before .before .before .if2 .left) (written .before .before .before .if3 .left) (written .write-report .ensures .0)
 
 pub petalchurn-report-spec : {M : Type 1} → statement M
 petalchurn-report-spec =

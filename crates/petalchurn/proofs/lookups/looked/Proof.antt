@@ -1,7 +1,7 @@
 -- `looked`: no state is refused; else the judge's answer.
 use mathlib.Core.Path.{refl, sym, _∙_}
 use borrow.Author.Tests.{not-true, not-false}
-use Rattle.petalchurn.proofs.States.{state-facts}
+use Rattle.state_words.proofs.States.{state-facts}
 use Rattle.petalchurn.proofs.AnswerLaws.{looked-unfit, looked-done}
 use borrow.Author.Needs.{needs}
 use Rattle.petalchurn.proofs.lookups.looked.Statement.{statement}

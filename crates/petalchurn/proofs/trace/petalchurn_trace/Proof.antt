@@ -7,7 +7,7 @@ use Rattle.petalchurn.proofs.trace.petalchurn_trace.Tie as tie
 returns : tie.Need-returns
 returns c =
     let a = c .before .before .before .before .before .args in
-    trace-short (a .tenant) (a .log .now) (a .work .now) (a .trace .now) (a .out .now) (c .if1 .taken)
+    trace-short (record { tenant = a .tenant }) (a .log .now) (a .work .now) (a .trace .now) (a .out .now) (c .if1 .taken)
 
 judge-trace-requires : tie.Need-judge-trace-requires
 judge-trace-requires c κs = search needs
@@ -30,7 +30,7 @@ returns-2 c =
     let traced = written .before .before .before .before .before .before in
     let asked = traced .before .before .before in
     let a = asked .before .before .before .before .before .args in
-    trace-done (a .tenant) (a .log .now) (a .work .now) (a .trace .now) (a .out .now) (traced .judge-trace .result) (asked .if1 .left)
+    trace-done (record { tenant = a .tenant }) (a .log .now) (a .work .now) (a .trace .now) (a .out .now) (traced .judge-trace .result) (asked .if1 .left)
     (traced .judge-trace .ensures) (written .write-trace .ensures .0) (written .write-trace .ensures .1)
 
 pub petalchurn-trace-spec : {M : Type 1} → statement M

@@ -37,7 +37,7 @@ returns c =
     let w = written .write-rows .ensures in
     let n = numbered .number-of .ensures in
     let refused = at .refused-at .ensures ∙ ap (λ (k : ℕ). cond (eqb k 0) 0 (start .args .traced .at)) n in
-    (n, w .1 ∙ trace-written (start .args .out .now) (start .args .traced) (start .pre) (w .0) refl refused)
+    (n, w .is ∙ trace-written (start .args .out .now) (start .args .traced) (start .pre) (w .many) refl refused)
 
 pub write-trace-spec : {M : Type 1} → statement M
 write-trace-spec =

@@ -2,10 +2,10 @@
 use mathlib.Core.Path.{_∙_}
 use native.Mathlib.Omega.{arith}
 use lib.ListN.{length-set}
-use Rattle.petalchurn.proofs.States.{state-written}
+use Rattle.state_words.proofs.States.{state-written}
 use borrow.Author.Needs.{needs}
-use Rattle.petalchurn.proofs.words.write_state.Statement.{statement}
-use Rattle.petalchurn.proofs.words.write_state.Tie as tie
+use Rattle.state_words.proofs.write_state.Statement.{statement}
+use Rattle.state_words.proofs.write_state.Tie as tie
 
 slice-write-state : tie.Need-slice-write-state
 slice-write-state c = search needs
@@ -24,9 +24,9 @@ same-length c = c .before .before .write-rows .kept .0 ∙ simp length-set
 
 returns : tie.Need-returns
 returns c =
-    let a = c .before .before .before .before .before .before .args in
+    let start = c .before .before .before .before .before .before .before in
     let w = c .before .before .write-rows .ensures in
-    w .1 ∙ state-written (a .state .now) (a .judge) (c .before .before .before .before .before .before .pre) (w .0)
+    w .is ∙ state-written (start .args .state .now) (start .args .judge) (start .pre) (w .many)
 
 pub write-state-spec : {M : Type 1} → statement M
 write-state-spec =

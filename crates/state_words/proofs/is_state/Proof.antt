@@ -1,9 +1,9 @@
--- `is_state`: other than 59 words are no state; of 59 the kinds decide.
+-- `is_state`: words of another number are no state; else the kinds decide.
 use mathlib.Core.Path.{sym, _∙_}
-use Rattle.petalchurn.proofs.States.{state-size, state-kinds}
+use Rattle.state_words.proofs.States.{state-size, state-kinds}
 use borrow.Author.Needs.{needs}
-use Rattle.petalchurn.proofs.words.is_state.Statement.{statement}
-use Rattle.petalchurn.proofs.words.is_state.Tie as tie
+use Rattle.state_words.proofs.is_state.Statement.{statement}
+use Rattle.state_words.proofs.is_state.Tie as tie
 
 returns : tie.Need-returns
 returns c = sym (state-size (c .before .before .args .state .now) (c .if1 .taken))

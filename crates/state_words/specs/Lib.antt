@@ -1,0 +1,2 @@
+-- A judge as words.
+pub mod StateWords

@@ -1,0 +1,61 @@
+// A judge as the words that a host keeps between calls: a header, and seven words for each check. Read, and written.
+use judge::state::Judge;
+use rows::ROWS;
+use rows::kinds_fit;
+use rows::read_rows;
+use rows::write_rows;
+use rules::Opening;
+ghost use mathlib.Core.Path.{_≡_};
+ghost use lib.ListN.{length};
+ghost use Rattle.state_words.specs.StateWords.{stateSize, stateWords, judgeIn, isState, IsState};
+
+// The words before the reports: capacity, count, tenant.
+pub const HEADER: usize = 3;
+
+pub const CAPACITY_WORD: usize = 0;
+
+pub const COUNT_WORD: usize = 1;
+
+pub const TENANT_WORD: usize = 2;
+
+// The words of a judge.
+pub const STATE_WORDS: usize = HEADER + ROWS;
+
+// Whether words are a judge's.
+pub fn is_state(state: &[u64]) -> bool
+    ensures { λ r. ⌜ r ≡ isState (now (state .entry)) ⌝ }
+{
+    if state.len() != STATE_WORDS {
+        return false;
+    }
+    kinds_fit(state, HEADER)
+}
+
+// The judge that words stand for.
+pub fn read_state(state: &[u64]) -> Judge
+    requires { ⌜ IsState (now state) ⌝ }
+    ensures { λ r. ⌜ r ≡ judgeIn (now (state .entry)) ⌝ }
+{
+    let reports = read_rows(state, HEADER);
+    Judge {
+        capacity: state[CAPACITY_WORD] as usize,
+        count: state[COUNT_WORD] as usize,
+        opening: Opening {
+            tenant: state[TENANT_WORD],
+        },
+        reports: reports,
+    }
+}
+
+// Writes a judge's words.
+pub fn write_state(state: &mut [u64], judge: Judge)
+    requires { ⌜ length (now state) ≡ stateSize ⌝ }
+    ensures { λ _. ⌜ now (state .exit) ≡ stateWords judge ⌝ }
+{
+    let reports = judge.reports;
+    let opening = judge.opening;
+    state[CAPACITY_WORD] = judge.capacity as u64;
+    state[COUNT_WORD] = judge.count as u64;
+    state[TENANT_WORD] = opening.tenant;
+    write_rows(state, HEADER, reports);
+}
