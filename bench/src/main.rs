@@ -3,6 +3,7 @@
 
 mod clock;
 mod direct;
+mod hard;
 mod sides;
 mod story;
 mod worst;
@@ -147,7 +148,8 @@ fn repeat(row: &Row, times: usize) {
     }
 }
 
-fn rows(words: &[String]) -> Vec<Row> {
+/// The rows whose names have one of the words; the hard ones only where they are asked for.
+fn rows(words: &[String], hard: bool) -> Vec<Row> {
     let wanted = |name: &str| words.is_empty() || words.iter().any(|word| name.contains(word));
     let mut rows = Vec::new();
     for (name, tellers, noise) in STORIES {
@@ -155,7 +157,8 @@ fn rows(words: &[String]) -> Vec<Row> {
             rows.extend(SIZES.map(|size| stories(name, size, tellers, noise)));
         }
     }
-    for (name, make) in worst::WORST {
+    let hard: &[_] = if hard { &hard::HARD } else { &[] };
+    for &(name, make) in worst::WORST.iter().chain(hard) {
         if wanted(name) {
             rows.extend(SIZES.map(|size| row(name, size, vec![make(size)])));
         }
@@ -171,11 +174,12 @@ fn main() {
     };
     let rounds = take("--rounds=").map_or(40, |n| n.parse().expect("a number of rounds"));
     let loose = take("--loose").is_some();
+    let hard = take("--hard").is_some();
     let saved = take("--save=");
     let repeated: Option<usize> = take("--repeat=").map(|n| n.parse().expect("a number"));
     let size: Option<usize> = take("--size=").map(|n| n.parse().expect("a size"));
     let capacity: Option<usize> = take("--capacity=").map(|n| n.parse().expect("a capacity"));
-    let mut rows = rows(&words);
+    let mut rows = rows(&words, hard);
     rows.retain(|row| size.is_none_or(|size| row.size == size));
     if let Some(times) = repeated {
         return rows.iter().for_each(|row| repeat(row, times));

@@ -3,34 +3,34 @@
 use oracle::random::Random;
 use oracle::wire::{Record, Span};
 
-fn key_of(number: usize) -> Vec<u8> {
+pub fn key_of(number: usize) -> Vec<u8> {
     format!("meter/{number:08}").into_bytes()
 }
 
-fn slot(i: usize) -> Span {
+pub fn slot(i: usize) -> Span {
     (key_of(2 * i), key_of(2 * i + 1))
 }
 
-fn all() -> Span {
+pub fn all() -> Span {
     (key_of(0), b"n".to_vec())
 }
 
-fn record(kind: u8, sub: u8, node: Option<u32>, numbers: [u64; 5]) -> Record {
+pub fn record(kind: u8, sub: u8, node: Option<u32>, numbers: [u64; 5]) -> Record {
     Record { kind, sub, node, numbers, ..Record::default() }
 }
 
-fn valued(mut record: Record, span: Span) -> Record {
+pub fn valued(mut record: Record, span: Span) -> Record {
     record.voters = vec![1, 2, 3];
     record.spans = vec![span];
     record
 }
 
-fn descriptor(node: Option<u32>, numbers: [u64; 5], span: Span) -> Record {
+pub fn descriptor(node: Option<u32>, numbers: [u64; 5], span: Span) -> Record {
     valued(record(2, 1, node, numbers), span)
 }
 
 /// A put of each generation below `generations`, and then kind 12s.
-fn metas(n: usize, generations: u64, name: impl Fn(usize, u64) -> (u64, u64, Span)) -> Vec<Record> {
+pub fn metas(n: usize, generations: u64, name: impl Fn(usize, u64) -> (u64, u64, Span)) -> Vec<Record> {
     let put = |g: u64| descriptor(None, [1, g + 1, g + 1, g, 0], all());
     let mut records: Vec<Record> = (0..generations).map(put).collect();
     for i in 0..n - records.len() {
@@ -195,7 +195,7 @@ fn one_key(n: usize) -> Vec<Record> {
     records
 }
 
-fn grants(n: usize) -> Vec<Record> {
+pub fn grants(n: usize) -> Vec<Record> {
     let grant = |i: u64| record(11, 0, Some(1), [1, i, 1, 10 * i, 10 * i + 9]);
     (1..=n as u64).map(grant).collect()
 }
@@ -210,7 +210,7 @@ fn grants_falling(n: usize) -> Vec<Record> {
     records
 }
 
-type Maker = fn(usize) -> Vec<Record>;
+pub type Maker = fn(usize) -> Vec<Record>;
 
 /// The traces by name.
 pub const WORST: [(&str, Maker); 17] = [
