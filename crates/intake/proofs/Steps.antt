@@ -119,7 +119,8 @@ module _ (k w : ℕ) (l : k < checkCount) (cap : ℕ) (log work : List ℕ) (n :
 
 -- ---- all of them
 
-pub ready-more : {log work bytes rows rows′ : List ℕ} {n cap : ℕ} → Ready log work n cap bytes rows → length rows′ ≡ length rows → Ready log work n cap bytes rows′
+pub ready-more : {log work bytes rows rows′ : List ℕ} {n cap : ℕ} → Ready log work n cap bytes rows → length rows′ ≡ length rows
+    → Ready log work n cap bytes rows′
 ready-more r e = record { bounds = r .bounds; size = r .size; rows-size = e ∙ r .rows-size }
 
 -- each check has stepped its own row

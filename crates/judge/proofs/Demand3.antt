@@ -89,7 +89,8 @@ module _ (Indexed : Indexing) where
       let cap = s .judge .capacity in
       let q = stepped h s m c a p in
       let w = ran (afterCall cap h c) (q .after) r in
-      let e : takenOf (m .judge .capacity) cs (afterCall cap h c) ≡ takenOf cap cs (afterCall cap h c) = ap (λ (n : ℕ). takenOf n cs (afterCall cap h c)) (q .capacity) in
+      let g = afterCall cap h c in
+      let e : takenOf (m .judge .capacity) cs g ≡ takenOf cap cs g = ap (λ (n : ℕ). takenOf n cs g) (q .capacity) in
       record {
         after = subst (λ (g : History). After Indexed g u) e (w .after);
         capacity = w .capacity ∙ q .capacity;

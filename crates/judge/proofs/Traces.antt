@@ -78,7 +78,8 @@ zeros-fit = record { kind = λ k l. let e = getD-replicate {A = ℕ} 56 (0 + 7 *
 -- an opening that is not refused, and what the trace comes to from there; or one that is
 module _ (n : Opening) (log work trace : List ℕ) (o : Opened) {work₁ : List ℕ} (p : Opens n (length log) work o work₁) where
   pub traced-on : {log′ work′ : List ℕ} (r : Traced) → o .refusal ≡ Nothing
-      → Feeds (stateOf (judgeBy (o .judge .opening) (o .judge .capacity) 0 (replicate 56 0)) log work₁) trace 0 (refusalNumber (r .refusal)) (r .at) (stateOf (r .judge) log′ work′)
+      → Feeds (stateOf (judgeBy (o .judge .opening) (o .judge .capacity) 0 (replicate 56 0)) log work₁) trace 0 (refusalNumber (r .refusal)) (r .at)
+      (stateOf (r .judge) log′ work′)
       → TracedBy n log work trace r log′ work′
   traced-on {log′} {work′} r e w = record {
     refused = λ none. let x = p .refused none .0 in let y = ap refusalNumber e in absurd (omega arith);

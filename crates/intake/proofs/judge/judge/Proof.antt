@@ -36,7 +36,8 @@ next-twice-requires c κs =
     let c3 = c .before .before .before in
     let c2 = c3 .before .before .before .before in
     let c1 = c2 .before .before .before .before in
-    ready-more (c1 .before .before .before .before .before .before .pre) (c3 .next-install .ensures .size ∙ c2 .next-overlap .ensures any .size ∙ c1 .next-agreement .ensures any .size)
+    ready-more (c1 .before .before .before .before .before .before .pre)
+    (c3 .next-install .ensures .size ∙ c2 .next-overlap .ensures any .size ∙ c1 .next-agreement .ensures any .size)
 
 next-half-requires : tie.Need-next-half-requires
 next-half-requires c κs =
@@ -44,7 +45,9 @@ next-half-requires c κs =
     let c3 = c4 .before .before .before .before in
     let c2 = c3 .before .before .before .before in
     let c1 = c2 .before .before .before .before in
-    ready-more (c1 .before .before .before .before .before .before .pre) (c4 .next-twice .ensures any .size ∙ c3 .next-install .ensures .size ∙ c2 .next-overlap .ensures any .size ∙ c1 .next-agreement .ensures any .size)
+    ready-more (c1 .before .before .before .before .before .before .pre)
+    (c4 .next-twice .ensures any .size ∙ c3 .next-install .ensures .size ∙ c2 .next-overlap .ensures any .size
+    ∙ c1 .next-agreement .ensures any .size)
 
 next-generations-requires : tie.Need-next-generations-requires
 next-generations-requires c κs =
@@ -53,7 +56,9 @@ next-generations-requires c κs =
     let c3 = c4 .before .before .before .before in
     let c2 = c3 .before .before .before .before in
     let c1 = c2 .before .before .before .before in
-    ready-more (c1 .before .before .before .before .before .before .pre) (c5 .next-half .ensures any .size ∙ c4 .next-twice .ensures any .size ∙ c3 .next-install .ensures .size ∙ c2 .next-overlap .ensures any .size ∙ c1 .next-agreement .ensures any .size)
+    ready-more (c1 .before .before .before .before .before .before .pre)
+    (c5 .next-half .ensures any .size ∙ c4 .next-twice .ensures any .size ∙ c3 .next-install .ensures .size
+    ∙ c2 .next-overlap .ensures any .size ∙ c1 .next-agreement .ensures any .size)
 
 next-ids-requires : tie.Need-next-ids-requires
 next-ids-requires c κs =
@@ -63,7 +68,9 @@ next-ids-requires c κs =
     let c3 = c4 .before .before .before .before in
     let c2 = c3 .before .before .before .before in
     let c1 = c2 .before .before .before .before in
-    ready-more (c1 .before .before .before .before .before .before .pre) (c6 .next-generations .ensures any .size ∙ c5 .next-half .ensures any .size ∙ c4 .next-twice .ensures any .size ∙ c3 .next-install .ensures .size ∙ c2 .next-overlap .ensures any .size ∙ c1 .next-agreement .ensures any .size)
+    ready-more (c1 .before .before .before .before .before .before .pre)
+    (c6 .next-generations .ensures any .size ∙ c5 .next-half .ensures any .size ∙ c4 .next-twice .ensures any .size
+    ∙ c3 .next-install .ensures .size ∙ c2 .next-overlap .ensures any .size ∙ c1 .next-agreement .ensures any .size)
 
 next-meta-requires : tie.Need-next-meta-requires
 next-meta-requires c κs =
@@ -74,7 +81,10 @@ next-meta-requires c κs =
     let c3 = c4 .before .before .before .before in
     let c2 = c3 .before .before .before .before in
     let c1 = c2 .before .before .before .before in
-    ready-more (c1 .before .before .before .before .before .before .pre) (c7 .next-ids .ensures any .size ∙ c6 .next-generations .ensures any .size ∙ c5 .next-half .ensures any .size ∙ c4 .next-twice .ensures any .size ∙ c3 .next-install .ensures .size ∙ c2 .next-overlap .ensures any .size ∙ c1 .next-agreement .ensures any .size)
+    ready-more (c1 .before .before .before .before .before .before .pre)
+    (c7 .next-ids .ensures any .size ∙ c6 .next-generations .ensures any .size ∙ c5 .next-half .ensures any .size
+    ∙ c4 .next-twice .ensures any .size ∙ c3 .next-install .ensures .size ∙ c2 .next-overlap .ensures any .size
+    ∙ c1 .next-agreement .ensures any .size)
 
 same-length : tie.Need-same-length
 same-length c =
@@ -86,7 +96,9 @@ same-length c =
     let c3 = c4 .before .before .before .before in
     let c2 = c3 .before .before .before .before in
     let c1 = c2 .before .before .before .before in
-    c8 .next-meta .ensures any .size ∙ c7 .next-ids .ensures any .size ∙ c6 .next-generations .ensures any .size ∙ c5 .next-half .ensures any .size ∙ c4 .next-twice .ensures any .size ∙ c3 .next-install .ensures .size ∙ c2 .next-overlap .ensures any .size ∙ c1 .next-agreement .ensures any .size
+    c8 .next-meta .ensures any .size ∙ c7 .next-ids .ensures any .size ∙ c6 .next-generations .ensures any .size
+    ∙ c5 .next-half .ensures any .size ∙ c4 .next-twice .ensures any .size ∙ c3 .next-install .ensures .size
+    ∙ c2 .next-overlap .ensures any .size ∙ c1 .next-agreement .ensures any .size
 
 returns : tie.Need-returns
 returns c =

@@ -26,7 +26,9 @@ returns-2 : tie.Need-returns-2
 returns-2 c =
     let a = c .before .before .before .before .before .before .before .before .args in
     let p = c .before .passes in
-    λ o. kept 0 1 (omega arith) (a .cap) (a .log .now) (a .work .now) (a .n) (a .rec .now) (a .concerned) (a .position) (a .rows .now) (sym (p .ensures) ∙ not-true (p .result) (c .if2 .taken)) o
+    λ o.
+    kept 0 1 (omega arith) (a .cap) (a .log .now) (a .work .now) (a .n) (a .rec .now) (a .concerned) (a .position) (a .rows .now)
+    (sym (p .ensures) ∙ not-true (p .result) (c .if2 .taken)) o
 
 agreement-requires : tie.Need-agreement-requires
 agreement-requires c κs = search needs
@@ -43,7 +45,10 @@ returns-3 c =
     let p = c .before .before .before .before .before .before .passes in
     let e = c .before .before .enter in
     let says = c .before .before .before .before .agreement .ensures in
-    λ o. stepped 0 1 (omega arith) (a .cap) (a .log .now) (a .work .now) (a .n) (a .rec .now) (a .concerned) (a .position) (a .rows .now) (sym (p .ensures) ∙ not-false (p .result) (c .before .before .before .before .before .if2 .left)) _ _ (e .ensures) o (λ i v. says (i .descriptors) (pass-clear agreement agreement-none (hist (a .log .now) (a .n)) v))
+    λ o.
+    stepped 0 1 (omega arith) (a .cap) (a .log .now) (a .work .now) (a .n) (a .rec .now) (a .concerned) (a .position) (a .rows .now)
+    (sym (p .ensures) ∙ not-false (p .result) (c .before .before .before .before .before .if2 .left))
+    _ _ (e .ensures) o (λ i v. says (i .descriptors) (pass-clear agreement agreement-none (hist (a .log .now) (a .n)) v))
 
 pub next-agreement-spec : {M : Type 1} → statement M
 next-agreement-spec =

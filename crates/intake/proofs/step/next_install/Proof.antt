@@ -10,7 +10,8 @@ use Rattle.intake.proofs.step.next_install.Tie as tie
 returns : tie.Need-returns
 returns c =
     let a = c .before .before .before .before .before .args in
-    left 2 4 (omega arith) (a .cap) (a .log .now) (a .work .now) (a .n) (a .rec .now) (a .concerned) (a .position) (a .rows .now) (c .if1 .taken) (record { tenant = a .tenant })
+    left 2 4 (omega arith) (a .cap) (a .log .now) (a .work .now) (a .n) (a .rec .now) (a .concerned) (a .position) (a .rows .now)
+    (c .if1 .taken) (record { tenant = a .tenant })
 
 passes-requires : tie.Need-passes-requires
 passes-requires c κs = search needs
@@ -22,7 +23,8 @@ returns-2 : tie.Need-returns-2
 returns-2 c =
     let a = c .before .before .before .before .before .before .before .before .args in
     let p = c .before .passes in
-    kept 2 4 (omega arith) (a .cap) (a .log .now) (a .work .now) (a .n) (a .rec .now) (a .concerned) (a .position) (a .rows .now) (sym (p .ensures) ∙ not-true (p .result) (c .if2 .taken)) (record { tenant = a .tenant })
+    kept 2 4 (omega arith) (a .cap) (a .log .now) (a .work .now) (a .n) (a .rec .now) (a .concerned) (a .position) (a .rows .now)
+    (sym (p .ensures) ∙ not-true (p .result) (c .if2 .taken)) (record { tenant = a .tenant })
 
 install-requires : tie.Need-install-requires
 install-requires c κs = search needs
@@ -39,7 +41,9 @@ returns-3 c =
     let p = c .before .before .before .before .before .before .passes in
     let e = c .before .before .enter in
     let says = c .before .before .before .before .install .ensures in
-    stepped 2 4 (omega arith) (a .cap) (a .log .now) (a .work .now) (a .n) (a .rec .now) (a .concerned) (a .position) (a .rows .now) (sym (p .ensures) ∙ not-false (p .result) (c .before .before .before .before .before .if2 .left)) _ _ (e .ensures) (record { tenant = a .tenant }) (λ i v. says (i .owners))
+    stepped 2 4 (omega arith) (a .cap) (a .log .now) (a .work .now) (a .n) (a .rec .now) (a .concerned) (a .position) (a .rows .now)
+    (sym (p .ensures) ∙ not-false (p .result) (c .before .before .before .before .before .if2 .left))
+    _ _ (e .ensures) (record { tenant = a .tenant }) (λ i v. says (i .owners))
 
 pub next-install-spec : {M : Type 1} → statement M
 next-install-spec =

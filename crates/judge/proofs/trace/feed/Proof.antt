@@ -69,7 +69,8 @@ module _ (c : tie.After-take Inv-loop μ-loop) where
       → Feeds (stateOf (judgeBy o (s .args .cap) (l .loop .n + 1) rows′) log′ work′) (drop end trace) (l .loop .n + 1) f a t → Feeds first trace 0 f a t
   on q f a t w =
       let there = stateOf (judgeBy o (s .args .cap) (l .loop .n + 1) rows′) log′ work′ in
-      let e : drop end trace ≡ drop 368 (drop (l .loop .at) trace) = record-rest trace (l .loop .at) end (c .before .before .before .before .before .record-end .ensures) in
+      let ended = c .before .before .before .before .before .record-end .ensures in
+      let e : drop end trace ≡ drop 368 (drop (l .loop .at) trace) = record-rest trace (l .loop .at) end ended in
       l .loop .inv .6 f a t
       (feeds-on o (s .args .cap) (l .loop .n) (l .loop .log) (l .loop .work) (l .loop .rows) (drop (l .loop .at) trace) some part size (c .take .ensures) q
       (subst (λ (r : List ℕ). Feeds there r (l .loop .n + 1) f a t) e w))
@@ -102,7 +103,9 @@ part-take-end : tie.Need-part-take-end Inv-loop μ-loop
 part-take-end c = search needs
 
 take-requires : tie.Need-take-requires Inv-loop μ-loop
-take-requires c κs = c .before .before .before .before .before .before .loop .inv .4 ∙ c .before .before .before .before .before .before .before .before .before .before .before .pre
+take-requires c κs =
+    let i = c .before .before .before .before .before .before in
+    i .loop .inv .4 ∙ i .before .before .before .before .before .pre
 
 add-t22 : tie.Need-add-t22 Inv-loop μ-loop
 add-t22 c = search needs

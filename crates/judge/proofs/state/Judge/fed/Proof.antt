@@ -7,7 +7,7 @@ use lib.ListN.{length, replicate}
 use borrow.Author.Needs.{needs}
 use Rattle.rules.specs.declared.Report.{Report}
 use Rattle.judge.specs.declared.state.Judge.{Judge}
-use Rattle.judge.specs.States.{refusalNumber}
+use Rattle.judge.specs.States.{State, refusalNumber}
 use Rattle.judge.specs.Runs.{stateOf}
 use Rattle.judge.specs.Traces.{Feeds, judgeBy}
 use Rattle.judge.proofs.Traces.{zeros-fit}
@@ -41,16 +41,16 @@ same-length-2 c = search needs
 returns : tie.Need-returns
 returns c =
     let f = c .before .before .before .before .before .before .before .before .feed in
-    let j = c .before .before .before .before .before .before .before .before .before .before .before .before .before .before .before .before .args .self in
-    let log = c .before .before .before .before .before .before .before .before .before .before .before .before .before .before .before .before .args .log .now in
-    let work = c .before .before .before .before .before .before .before .before .before .before .before .before .before .before .before .before .args .work .now in
-    let trace = c .before .before .before .before .before .before .before .before .before .before .before .before .before .before .before .before .args .trace .now in
-    let start = stateOf (judgeBy (j .opening) (j .capacity) 0 (replicate 56 0)) log work in
+    let a = c .before .before .before .before .before .before .before .before .before .before .before .before .before .before .before .before .args in
+    let j = a .self in
+    let trace = a .trace .now in
+    let start = stateOf (judgeBy (j .opening) (j .capacity) 0 (replicate 56 0)) (a .log .now) (a .work .now) in
     let judge : List Report → Judge =
     λ rs. record { capacity = j .capacity; count = f .result .count; opening = j .opening; reports = rs } in
-    subst (λ (n : ℕ). Feeds start trace 0 n (f .result .at) (stateOf (judge (c .before .read-rows .result)) (f .last .0) (f .last .1 .0))) (sym (c .refusal-of .ensures))
-    (subst (λ (rs : List Report). Feeds start trace 0 (f .result .refusal) (f .result .at) (stateOf (judge rs) (f .last .0) (f .last .1 .0)))
-    (sym (c .before .read-rows .ensures)) (f .ensures .feeds))
+    let left : List Report → State = λ rs. stateOf (judge rs) (f .last .0) (f .last .1 .0) in
+    let reports = c .before .read-rows in
+    subst (λ (n : ℕ). Feeds start trace 0 n (f .result .at) (left (reports .result))) (sym (c .refusal-of .ensures))
+    (subst (λ (rs : List Report). Feeds start trace 0 (f .result .refusal) (f .result .at) (left rs)) (sym (reports .ensures)) (f .ensures .feeds))
 
 pub fed-spec : {M : Type 1} → statement M
 fed-spec =

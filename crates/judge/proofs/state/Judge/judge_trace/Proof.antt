@@ -22,10 +22,13 @@ same-length-2 c = search needs
 
 returns : tie.Need-returns
 returns c =
-    let a = c .before .before .before .before .before .before .before .before .before .before .before .before .before .before .before .before .before .before .args in
-    let o = c .before .before .before .before .before .before .before .before .before .before .before .before .«open» in
-    let p = c .before .before .before .before .fed in
-    traced-on (a .opening) (a .log .now) (a .work .now) (a .trace .now) (o .result) (o .ensures) (p .result) (c .before .before .before .before .before .before .before .enum-told .given .1) (p .ensures)
+    let f = c .before .before .before .before in
+    let told = f .before .before .before in
+    let opened = told .before .before .before .before .before in
+    let a = opened .before .before .before .before .before .before .args in
+    let o = opened .«open» in
+    traced-on (a .opening) (a .log .now) (a .work .now) (a .trace .now) (o .result) (o .ensures) (f .fed .result) (told .enum-told .given .1)
+    (f .fed .ensures)
 
 same-length-3 : tie.Need-same-length-3
 same-length-3 c = search needs

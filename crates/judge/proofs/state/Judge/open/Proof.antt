@@ -18,7 +18,8 @@ returns : tie.Need-returns
 returns c =
     let u = c .before .before .before in
     let a = u .before .before .before .before .args in
-    asked-refused (a .opening) (length (a .log .now)) (a .work .now) (u .before .fresh .ensures) (u .suits .ensures) (c .before .if1 .taken) (c .fresh2 .ensures)
+    asked-refused (a .opening) (length (a .log .now)) (a .work .now) (u .before .fresh .ensures) (u .suits .ensures) (c .before .if1 .taken)
+    (c .fresh2 .ensures)
 
 clear-requires : tie.Need-clear-requires
 clear-requires c κs = search needs

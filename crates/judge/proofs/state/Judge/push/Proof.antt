@@ -123,12 +123,13 @@ returns-2 c =
     let rows = w t .write-rows .last .0 in
     let e = t .take .ensures in
     let z = c .before .before .if1 .left in
+    let given = stateOf (a .self) (a .log .now) (a .work .now) in
     let q = push-taken (a .self) (a .log .now) (a .work .now) rows (a .rec .now) (are (w t)) e z in
     let judge : List Report → Judge =
     λ rs. record { capacity = a .self .capacity; count = a .self .count + 1; opening = a .self .opening; reports = rs } in
     record {
       refusal = sym z ∙ push-number (a .self) (a .log .now) (a .work .now) rows (a .rec .now) (are (w t)) e;
-      leaves = subst (λ (rs : List Report). Pushed Indexed (stateOf (a .self) (a .log .now) (a .work .now)) (a .rec .now) (stateOf (judge rs) (t .take .last .0) (t .take .last .1 .0)))
+      leaves = subst (λ (rs : List Report). Pushed Indexed given (a .rec .now) (stateOf (judge rs) (t .take .last .0) (t .take .last .1 .0)))
           (sym (c .read-rows .ensures)) q;
     }
 
