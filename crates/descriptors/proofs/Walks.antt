@@ -23,7 +23,8 @@ use Rattle.rules.proofs.Booleans.{and-left, and-right}
 use Rattle.rules.proofs.Skips.{told-hit, told-skip, latestOf-hit}
 use Rattle.history.proofs.Tellings.{fresh, when-holds, firsts-afresh}
 use Rattle.history.specs.Weighing.{greaterOf, lowerOf}
-use Rattle.history.proofs.Queries.{Ignores, ignores-then, latest-ignores, earliest-ignores, greatest-ignores, lowest-ignores, greater-take, greater-keep, lower-take, lower-keep, greatest-turns, lowest-turns, greatest-end, lowest-end}
+use Rattle.history.proofs.Queries.{Ignores, ignores-then, latest-ignores, earliest-ignores, greatest-ignores, lowest-ignores, greater-take}
+use Rattle.history.proofs.Queries.{greater-keep, lower-take, lower-keep, greatest-turns, lowest-turns, greatest-end, lowest-end}
 use Rattle.history.proofs.Walks.{look-less, look-outside, latest-outside, latest-found, latest-passed, latest-end, firsts-outside, firsts-found, firsts-end}
 use Rattle.history.specs.Buckets.{bucketBy, bucketByTwo}
 use Rattle.descriptors.specs.Index.{newValue, firstValue, sameGeneration, appliedAt, appliedBucket, standingBucket, generationBucket, putEntry, statedEntry, put, statement}

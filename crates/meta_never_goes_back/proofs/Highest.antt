@@ -15,7 +15,8 @@ use Rattle.record.proofs.Keys.{le-le-le, lt-le-lt}
 use Rattle.rules.specs.Cases.{isFault, faultIf, orCase, caseOf}
 use Rattle.rules.specs.Descriptors.{spanOf, firstAtGeneration}
 use Rattle.rules.specs.History.{History, isKind, when, greater, greatestOf}
-use Rattle.rules.specs.MetaNeverGoesBack.{Name, isWon, nameBy, names, covers, standingName, namedFault, nameFault, keyFault, wonFault, metaAt, FirstFaulty, at, clean}
+use Rattle.rules.specs.MetaNeverGoesBack.{Name, isWon, nameBy, names, covers, standingName, namedFault, nameFault, keyFault, wonFault}
+use Rattle.rules.specs.MetaNeverGoesBack.{metaAt, FirstFaulty, at, clean}
 use Rattle.rules.specs.Reports.{atLast, reportOf}
 use Rattle.rules.specs.declared.Case.{Case}
 use Rattle.rules.specs.declared.Case.the-variants.{Clear, Fault}

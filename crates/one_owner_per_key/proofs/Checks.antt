@@ -77,7 +77,8 @@ span-case : (log : List ℕ) (n : ℕ) (t : Bool) → eqb n 0 ≡ t → spanFoun
 span-case log n true e = refl
 span-case log n false e = refl
 
-pub found-span : (node range : ℕ) (log : List ℕ) (n : ℕ) {f : Found} → f ≡ foundAt (holdNumber node range (hist log n)) → spanFound log f ≡ holdOf node range (hist log n)
+pub found-span : (node range : ℕ) (log : List ℕ) (n : ℕ) {f : Found} → f ≡ foundAt (holdNumber node range (hist log n))
+    → spanFound log f ≡ holdOf node range (hist log n)
 found-span node range log n e =
     let k = holdNumber node range (hist log n) in
     ap (spanFound log) e ∙ span-case log k (eqb k 0) refl ∙ held-span node range log n

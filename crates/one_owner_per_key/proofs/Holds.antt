@@ -36,7 +36,8 @@ module _ (node range : ℕ) where
   span-none = refl
 
   pub span-step : (x : TraceRecord) (h : History) → holdOf node range (x ∷ h)
-      ≡ cond (isBy node x) (cond (isHolding x && eqb (x .a) range) (some (spanOf 0 x)) (cond (isEnding range x) none (holdOf node range h))) (holdOf node range h)
+      ≡ cond (isBy node x)
+      (cond (isHolding x && eqb (x .a) range) (some (spanOf 0 x)) (cond (isEnding range x) none (holdOf node range h))) (holdOf node range h)
   unfolding holdOf latest
   span-step x h =
       span-cases (isBy node x) (isHolding x && eqb (x .a) range) (isEnding range x) (spanOf 0 x) (latest (tellsHold node range) h)
@@ -46,7 +47,8 @@ module _ (node range : ℕ) where
   held-none = refl
 
   pub held-step : (x : TraceRecord) (h : History) → holdNumber node range (x ∷ h)
-      ≡ cond (isBy node x) (cond (isHolding x && eqb (x .a) range) (suc (length h)) (cond (isEnding range x) 0 (holdNumber node range h))) (holdNumber node range h)
+      ≡ cond (isBy node x)
+      (cond (isHolding x && eqb (x .a) range) (suc (length h)) (cond (isEnding range x) 0 (holdNumber node range h))) (holdNumber node range h)
   unfolding holdNumber
   held-step x h = refl
 
@@ -224,7 +226,8 @@ module _ (node range : ℕ) (log : List ℕ) (n : ℕ) where
   began-step : (b p a v : Bool) → isBy node (recordAt log n) ≡ b → isHolding (recordAt log n) ≡ p → eqb (recordAt log n .a) range ≡ a
       → isEnding range (recordAt log n) ≡ v
       → (hasHold node range (hist log n) ≡ true → Began node range log (latestEnd node (hist log n)) n)
-      → isSome (cond b (cond (p && a) (some (spanOf 0 (recordAt log n))) (cond v none (holdOf node range (hist log n)))) (holdOf node range (hist log n))) ≡ true
+      → isSome (cond b (cond (p && a) (some (spanOf 0 (recordAt log n))) (cond v none (holdOf node range (hist log n))))
+      (holdOf node range (hist log n))) ≡ true
       → Began node range log (latestEnd node (hist log (suc n))) (suc n)
   began-step false p a v eb ep ea ev ih h = later (rw eb) (ih h)
   began-step true true true v eb ep ea ev ih h =

@@ -232,12 +232,14 @@ module _ (log : List ℕ) (n : ℕ) {k : ℕ} {x : TraceRecord} (w : Taken log n
 
   module _ (node : ℕ) {right m : ℕ} {y : TraceRecord} {r : Bool} {lowest : Option ℕ} (b : isBy node x ≡ true) (took : hasEffect Took x ≡ true) (ey : y ≡ recordAt log (k - 1))
       (em : m ≡ namedNumber (recordAt log (k - 1)) (hist log (k - 1))) (er : right ≡ rightBy log y m) (el : lowest ≡ lowestMissing node (hist log n))
-      (e : r ≡ anyOf (λ v. eqb v (serverOf node (hist log n) .0)) (y .voters) && not (hasHold node right (hist log n)) && not (holds (λ j. ltb j right) lowest)) where
+      (e : r ≡ anyOf (λ v. eqb v (serverOf node (hist log n) .0)) (y .voters) && not (hasHold node right (hist log n))
+      && not (holds (λ j. ltb j right) lowest)) where
     right-is : right ≡ w .split .right
     right-is =
         er ∙ ap (λ (z : TraceRecord). rightBy log z m) ey ∙ ap (rightBy log (recordAt log (k - 1))) em ∙ ap (λ (z : Registered). z .right) read
 
-    test-is : isVoter node (hist log n) (w .split) && not (hasHold node (w .split .right) (hist log n)) && not (holds (λ j. ltb j (w .split .right)) (lowestMissing node (hist log n))) ≡ r
+    test-is : isVoter node (hist log n) (w .split) && not (hasHold node (w .split .right) (hist log n))
+        && not (holds (λ j. ltb j (w .split .right)) (lowestMissing node (hist log n))) ≡ r
     test-is =
         let v : anyOf (λ v. eqb v (serverOf node (hist log n) .0)) (y .voters) ≡ isVoter node (hist log n) (w .split) =
         ap (λ (z : TraceRecord). anyOf (λ v. eqb v (serverOf node (hist log n) .0)) (z .voters)) ey ∙ ap (isVoter node (hist log n)) read in

@@ -51,7 +51,8 @@ module _ (x : TraceRecord) (h : History) (not-1 : isKind 1 x ≡ false) (not-2 :
   -- a record that is neither of kind 1 nor of kind 2, and ends nothing, leaves what is held
   pub held-same : (node range : ℕ) → isKind 6 x ≡ false → isKind 9 x ≡ false → isKind 10 x ≡ false → hasHold node range (x ∷ h) ≡ hasHold node range h
   held-same node range a b c =
-      let e : holdOf node range (x ∷ h) ≡ holdOf node range h = span-step node range x h ∙ rw (not-1, not-2, a, b, c) (either (isBy node x) (holdOf node range h)) in
+      let e : holdOf node range (x ∷ h) ≡ holdOf node range h =
+      span-step node range x h ∙ rw (not-1, not-2, a, b, c) (either (isBy node x) (holdOf node range h)) in
       ap isSome e
 
   -- ---- no debt but by its own application
@@ -118,7 +119,8 @@ module _ (node : ℕ) (x : TraceRecord) (h : History) (b : isBy node x ≡ true)
     took-debt : debtAt node right x h ≡ latestOf test (registered h)
     unfolding debtAt
     took-debt =
-        rw (own-kinds node right x h, b, took-kind 7 (λ q. omega arith), took, registers-none x h (took-kind 1 (λ q. omega arith)) (took-kind 2 (λ q. omega arith))) (or-none (latestOf test (registered h)))
+        rw (own-kinds node right x h, b, took-kind 7 (λ q. omega arith), took, registers-none x h (took-kind 1 (λ q. omega arith)) (took-kind 2 (λ q. omega arith)))
+        (or-none (latestOf test (registered h)))
 
     took-cases : (t : Bool) → its s ≡ t → owes node right (x ∷ h) ≡ cond t (some s) (owes node right h)
     took-cases t e =

@@ -18,7 +18,8 @@ use Rattle.rules.specs.declared.Found.the-variants.{At, Nothing}
 use Rattle.rules.specs.History.{History, isKind, isBy, when, orElse, isSome, holds, anyOf, latest}
 use Rattle.rules.specs.GenerationsRise.{hasEffect}
 use Rattle.rules.specs.OneOwnerPerKey.{hasHold}
-use Rattle.rules.specs.RightHalf.{Registered, registers, reaches, hasApplied, isVoter, serverOf, isRestated, cancels, debtAt, owes, tellsRestatedWith, restatedWith, lacks}
+use Rattle.rules.specs.RightHalf.{Registered, registers, reaches, hasApplied, isVoter, serverOf, isRestated, cancels, debtAt, owes}
+use Rattle.rules.specs.RightHalf.{tellsRestatedWith, restatedWith, lacks}
 use Rattle.rules.proofs.Booleans.{never, and-left, and-right, both, or-right, decide, kind-apart}
 use Rattle.rules.proofs.Registering.{registers-kind}
 use Rattle.rules.proofs.Debts.{owes-arises, owes-kept}
@@ -101,7 +102,8 @@ module _ (node range : ℕ) (log : List ℕ) where
   tf = λ x _. refuses node x
 
   abbrev heldAs : ℕ → Bool
-  heldAs n = cond (ltb (refusedNumber node (hist log n)) (restatedNumber node (hist log n))) (hasHold node range (hist log (restatedNumber node (hist log n) - 1))) false
+  heldAs n = cond (ltb (refusedNumber node (hist log n)) (restatedNumber node (hist log n)))
+      (hasHold node range (hist log (restatedNumber node (hist log n) - 1))) false
 
   -- the step, where the node stays restated
   with-step : (n : ℕ) (b u v z : Bool) → isBy node (recordAt log n) ≡ b → isKind 5 (recordAt log n) ≡ u → isKind 6 (recordAt log n) ≡ v → isKind 10 (recordAt log n) ≡ z

@@ -74,7 +74,8 @@ module _ (node range : ℕ) (log : List ℕ) where
   recorded-step : (n : ℕ) (b k a m z : Bool) → isBy node (recordAt log n) ≡ b → isKind 2 (recordAt log n) ≡ k → eqb (recordAt log n .a) range ≡ a
       → not (isRestated node (hist log n)) ≡ m → isKind 10 (recordAt log n) ≡ z
       → lasting (latest (tellsRecorded node range) (hist log n)) ≡ recordedAs n
-      → lasting (orElse (cond b (cond (k && a && m) (some (becomes (recordAt log n .c))) (when z ends)) none) (latest (tellsRecorded node range) (hist log n))) ≡ recordedAs (suc n)
+      → lasting (orElse (cond b (cond (k && a && m) (some (becomes (recordAt log n .c))) (when z ends)) none)
+      (latest (tellsRecorded node range) (hist log n))) ≡ recordedAs (suc n)
   unfolding asks
   recorded-step n true true true true z eb ek ea em ez i =
       let p : passesAt tr log n ≡ true = rw (eb, ea, ek, em) in

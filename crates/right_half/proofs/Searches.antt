@@ -75,7 +75,8 @@ module _ (log : List ℕ) (n node t right : ℕ) where
   unfolding lacksSplit
   lacks-away l e = rw (← owes-away log n node t (cancelNumber node right (hist log n)) l e) (sym (and-none (not (hasHold node right (hist log n)))))
 
-  pub lacks-owes : {r : Bool} {c : ℕ} → hasHold node right (hist log n) ≡ false → c ≡ cancelNumber node right (hist log n) → r ≡ owesSplit log n node t c → r ≡ lacksSplit log n node t right
+  pub lacks-owes : {r : Bool} {c : ℕ} → hasHold node right (hist log n) ≡ false → c ≡ cancelNumber node right (hist log n)
+      → r ≡ owesSplit log n node t c → r ≡ lacksSplit log n node t right
   unfolding lacksSplit
   lacks-owes e f g = g ∙ rw (e, f)
 
@@ -196,7 +197,8 @@ module _ (log : List ℕ) (n node : ℕ) where
       let e : a ≡ b = omega arith in
       ap some e
 
-  lacking : (r t : ℕ) → not (hasHold node r (hist log n)) ≡ true → owesSplit log n node t (cancelNumber node r (hist log n)) ≡ true → lacksSplit log n node t r ≡ true
+  lacking : (r t : ℕ) → not (hasHold node r (hist log n)) ≡ true → owesSplit log n node t (cancelNumber node r (hist log n)) ≡ true
+      → lacksSplit log n node t r ≡ true
   unfolding lacksSplit
   lacking r t p q = both p q
 

@@ -10,7 +10,8 @@ use borrow.Author.Tests.{eqb-true}
 use Rattle.record.specs.declared.named.Node.{Node}
 use Rattle.record.specs.declared.named.Node.the-variants.{Marked, Missing}
 use Rattle.record.specs.Records.{Span, TraceRecord}
-use Rattle.rules.specs.History.{History, isKind, byNode, isBy, when, orElse, Change, becomes, ends, lasting, isSome, holds, addSome, lowestOf, latest, told}
+use Rattle.rules.specs.History.{History, isKind, byNode, isBy, when, orElse, Change, becomes, ends, lasting, isSome, holds, addSome}
+use Rattle.rules.specs.History.{lowestOf, latest, told}
 use Rattle.rules.specs.Descriptors.{spanOf}
 use Rattle.rules.specs.OneOwnerPerKey.{isHolding, isEnding, tellsHold, holdOf, rangesOf, meets, lowestMeeting}
 use Rattle.rules.specs.RightHalf.{tellsRestated, isRestated, nodeNumber, nodesOf, Registered, lacks}

@@ -21,12 +21,15 @@ use Rattle.rules.specs.declared.Verdict.{Verdict}
 use Rattle.rules.specs.declared.Verdict.the-variants.{Pass, Faulted}
 use Rattle.rules.specs.Cases.{isFault, faultIf, orCase, caseOf, earliestCase, firstCase, KindWithin}
 use Rattle.rules.specs.History.{History, isKind, isSome, anyOf, latestOf, greatestOf, lowestOf}
-use Rattle.rules.specs.Descriptors.{Entry, spanOf, heldEqb, samePlace, tellsPut, standing, stated, atIn, firstAtGeneration, putFault, putsDiffer, aheadFault, differsFault, statementFault, agreement}
+use Rattle.rules.specs.Descriptors.{Entry, spanOf, heldEqb, samePlace, tellsPut, standing, stated, atIn, firstAtGeneration}
+use Rattle.rules.specs.Descriptors.{putFault, putsDiffer, aheadFault, differsFault, statementFault, agreement}
 use Rattle.rules.specs.OneOwnerPerKey.{byMarked, isHolding, hasHold, lowestMeeting, groupOf, isNamed, overlapAt, installFault, installAt, twiceAt}
-use Rattle.rules.specs.RightHalf.{Registered, registered, registers, isRegistered, owes, isMissing, nodesOf, lacks, missingFault, registeringFault, halfAt}
+use Rattle.rules.specs.RightHalf.{Registered, registered, registers, isRegistered, owes, isMissing, nodesOf, lacks}
+use Rattle.rules.specs.RightHalf.{missingFault, registeringFault, halfAt}
 use Rattle.rules.specs.GenerationsRise.{Write, hasEffect, tellsWrite, sameWrite, writes, opposes, isEarlier, writeFault, generationsAt}
 use Rattle.rules.specs.IdsUnique.{Grant, grantEqb, nonempty, shares, tellsGrant, sameIndex, firstGrants, blocksOf, grantFault, idsAt}
-use Rattle.rules.specs.MetaNeverGoesBack.{Name, differsFrom, namedFault, names, isWon, standingName, nameFault, keyFault, bounds, leastKey, wonFault, metaAt}
+use Rattle.rules.specs.MetaNeverGoesBack.{Name, differsFrom, names, isWon, standingName, bounds, leastKey}
+use Rattle.rules.specs.MetaNeverGoesBack.{namedFault, nameFault, keyFault, wonFault, metaAt}
 use Rattle.rules.specs.Reports.{passed, atFirst, AtRecord, atLast, reportOf}
 use Rattle.rules.specs.Checks.{Check, checks, caseAt, reportBy, reportsOf, Every}
 
@@ -73,10 +76,24 @@ module _ {most : ℕ} where
 
 -- ---- each check
 
+-- a fault by the place of its kind among the check's own
+module _ {most : ℕ} {f : Evidence} where
+  first-kind : KindWithin (suc most) (Fault 1 f)
+  first-kind = within-fault 1 (omega arith) (omega arith)
+
+  second-kind : KindWithin (suc (suc most)) (Fault 2 f)
+  second-kind = within-fault 2 (omega arith) (omega arith)
+
+  third-kind : KindWithin (suc (suc (suc most))) (Fault 3 f)
+  third-kind = within-fault 3 (omega arith) (omega arith)
+
+  fourth-kind : KindWithin (suc (suc (suc (suc most)))) (Fault 4 f)
+  fourth-kind = within-fault 4 (omega arith) (omega arith)
+
 put-kinds : (o : Option Entry) (vs : List Entry) → KindWithin 3 (putFault o vs)
 unfolding putFault
 put-kinds none vs = within-clear
-put-kinds (some p) vs = within-of (latestOf (samePlace p) vs) (λ v. within-if (not (heldEqb (v .held) (p .held))) (within-fault 1 (omega arith) (omega arith)))
+put-kinds (some p) vs = within-of (latestOf (samePlace p) vs) (λ v. within-if (not (heldEqb (v .held) (p .held))) first-kind)
 
 puts-kinds : (h : History) → KindWithin 3 (putsDiffer h)
 unfolding putsDiffer
@@ -87,12 +104,12 @@ ahead-kinds : (s : Entry) (vs : List Entry) → KindWithin 3 (aheadFault s vs)
 unfolding aheadFault
 ahead-kinds s vs =
     within-of (lowestOf (λ v. v .index) (λ v. eqb (v .range) (s .range) && ltb (s .index) (v .index) && eqb (v .held .generation) (s .held .generation)) vs)
-    (λ v. within-fault 2 (omega arith) (omega arith))
+    (λ v. second-kind)
 
 differs-kinds : (s : Entry) (vs : List Entry) (v : Entry) → KindWithin 3 (differsFault s vs v)
 unfolding differsFault
 differs-kinds s vs v =
-    within-if (not (heldEqb (v .held) (s .held))) (within-cond (ltb (v .held .generation) (s .held .generation)) (ahead-kinds s vs) (within-fault 3 (omega arith) (omega arith)))
+    within-if (not (heldEqb (v .held) (s .held))) (within-cond (ltb (v .held .generation) (s .held .generation)) (ahead-kinds s vs) third-kind)
 
 statement-kinds : (vs : List Entry) (s : Entry) → KindWithin 3 (statementFault vs s)
 unfolding statementFault
@@ -106,11 +123,11 @@ overlap-kinds : (x : TraceRecord) (h : History) → KindWithin 1 (overlapAt x h)
 unfolding overlapAt
 overlap-kinds x h =
     within-marked (x .node)
-    (λ n. within-if (isHolding x) (within-of (lowestMeeting (λ r. not (eqb r (x .a))) (spanOf 0 x) n h) (λ o. within-fault 1 (omega arith) (omega arith))))
+    (λ n. within-if (isHolding x) (within-of (lowestMeeting (λ r. not (eqb r (x .a))) (spanOf 0 x) n h) (λ o. first-kind)))
 
 span-kinds : (tenant : ℕ) (x : TraceRecord) (h : History) (n : ℕ) (s : Span) → KindWithin 1 (installFault tenant x h n s)
 span-kinds tenant x h n s =
-    within-if (not (isSome (groupOf tenant (s .start)))) (within-of (lowestMeeting (λ r. not (isNamed tenant (x .spans) r)) s n h) (λ r. within-fault 1 (omega arith) (omega arith)))
+    within-if (not (isSome (groupOf tenant (s .start)))) (within-of (lowestMeeting (λ r. not (isNamed tenant (x .spans) r)) s n h) (λ r. first-kind))
 
 install-kinds : (tenant : ℕ) (x : TraceRecord) (h : History) → KindWithin 1 (installAt tenant x h)
 unfolding installAt
@@ -118,16 +135,17 @@ install-kinds tenant x h = within-marked (x .node) (λ n. within-if (isKind 8 x)
 
 twice-kinds : (x : TraceRecord) (h : History) → KindWithin 1 (twiceAt x h)
 unfolding twiceAt
-twice-kinds x h = within-marked (x .node) (λ n. within-if (isKind 1 x && hasHold n (x .a) h) (within-fault 1 (omega arith) (omega arith)))
+twice-kinds x h = within-marked (x .node) (λ n. within-if (isKind 1 x && hasHold n (x .a) h) first-kind)
 
 missing-kinds : (kind node : ℕ) (h : History) → 1 ≤ kind → kind ≤ 2 → KindWithin 2 (missingFault kind node h)
 unfolding missingFault
 missing-kinds kind node h p q =
-    within-of (lowestOf (λ right. right) (isMissing node h) (map (λ s. s .right) (registered h))) (λ right. within-of (owes node right h) (λ s. within-fault kind p q))
+    within-of (lowestOf (λ right. right) (isMissing node h) (map (λ s. s .right) (registered h)))
+    (λ right. within-of (owes node right h) (λ s. within-fault kind p q))
 
 registering-kinds : (x : TraceRecord) (h : History) (s : Registered) → KindWithin 2 (registeringFault x h s)
 unfolding registeringFault
-registering-kinds x h s = within-of (lowestOf (λ node. node) (lacks s x h) (nodesOf h)) (λ node. within-fault 2 (omega arith) (omega arith))
+registering-kinds x h s = within-of (lowestOf (λ node. node) (lacks s x h) (nodesOf h)) (λ node. second-kind)
 
 half-kinds : (x : TraceRecord) (h : History) → KindWithin 2 (halfAt x h)
 unfolding halfAt
@@ -137,30 +155,32 @@ half-kinds x h =
     (within-or (within-if (isKind 5 x) (missing-kinds 2 n (x ∷ h) (omega arith) (omega arith))) (within-of (registers x h) (registering-kinds x h))))
 
 write-kinds : (w : Write) (o : Option ℕ) (ws : List Write) → KindWithin 2 (writeFault w o ws)
-write-kinds w none ws = within-fault 1 (omega arith) (omega arith)
+write-kinds w none ws = first-kind
 write-kinds w (some g) ws =
-    within-if (anyOf (λ o. keyEqb (o .key) (w .key) && opposes (w .range) g o) ws) (within-of (latestOf (isEarlier (w .key)) ws) (λ o. within-fault 2 (omega arith) (omega arith)))
+    within-if (anyOf (λ o. keyEqb (o .key) (w .key) && opposes (w .range) g o) ws) (within-of (latestOf (isEarlier (w .key)) ws) (λ o. second-kind))
 
 generations-kinds : (x : TraceRecord) (h : History) → KindWithin 2 (generationsAt x h)
 unfolding generationsAt
 generations-kinds x h = within-of (tellsWrite x h) (λ w. within-if (not (anyOf (sameWrite w) (writes h))) (write-kinds w (w .generation) (writes h)))
 
 grant-kinds : (g : Grant) (o : Option Grant) (bs : List Grant) → KindWithin 3 (grantFault g o bs)
-grant-kinds g (some o) bs = within-if (not (grantEqb g o)) (within-fault 1 (omega arith) (omega arith))
-grant-kinds g none bs =
-    within-cond (nonempty g) (within-if (anyOf (shares g) bs) (within-of (greatestOf (λ o. o .first) (λ o. leb (o .first) (g .last)) bs) (λ o. within-fault 3 (omega arith) (omega arith)))) (within-fault 2 (omega arith) (omega arith))
+grant-kinds g (some o) bs = within-if (not (grantEqb g o)) first-kind
+grant-kinds g none bs = within-cond (nonempty g) (within-if (anyOf (shares g) bs) (within-of nearest (λ o. third-kind))) second-kind
+  where
+    nearest : Option Grant
+    nearest = greatestOf (λ o. o .first) (λ o. leb (o .first) (g .last)) bs
 
 ids-kinds : (x : TraceRecord) (h : History) → KindWithin 3 (idsAt x h)
 unfolding idsAt
 ids-kinds x h = within-of (tellsGrant x h) (λ g. grant-kinds g (latestOf (sameIndex g) (firstGrants h)) (blocksOf h))
 
 named-kinds : (x : TraceRecord) (o : Option Entry) → KindWithin 4 (namedFault x o)
-named-kinds x none = within-fault 1 (omega arith) (omega arith)
-named-kinds x (some v) = within-if (differsFrom x (v .held)) (within-fault 2 (omega arith) (omega arith))
+named-kinds x none = first-kind
+named-kinds x (some v) = within-if (differsFrom x (v .held)) second-kind
 
 name-kinds : (x : TraceRecord) (n : Name) → KindWithin 4 (nameFault x n)
 name-kinds x n =
-    within-cond (ltb (n .index) (x .b)) (within-if (ltb (x .d) (n .generation)) (within-fault 3 (omega arith) (omega arith))) (within-if (ltb (n .generation) (x .d)) (within-fault 4 (omega arith) (omega arith)))
+    within-cond (ltb (n .index) (x .b)) (within-if (ltb (x .d) (n .generation)) third-kind) (within-if (ltb (n .generation) (x .d)) fourth-kind)
 
 key-kinds : (x : TraceRecord) (ns : List Name) (k : Key) → KindWithin 4 (keyFault x ns k)
 unfolding keyFault

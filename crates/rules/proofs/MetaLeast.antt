@@ -11,7 +11,8 @@ use Rattle.rules.specs.declared.Case.{Case}
 use Rattle.rules.specs.History.{greatestOf}
 use Rattle.rules.specs.Cases.{isFault, caseOf}
 use Rattle.rules.specs.Descriptors.{spanOf}
-use Rattle.rules.specs.MetaNeverGoesBack.{Name, covers, standingName, nameFault, keyFault, bounds, leastKey, wonFault, FirstFaultyKey, FirstFaulty, at, clean}
+use Rattle.rules.specs.MetaNeverGoesBack.{Name, covers, standingName, nameFault, keyFault, bounds, leastKey, wonFault, FirstFaultyKey}
+use Rattle.rules.specs.MetaNeverGoesBack.{FirstFaulty, at, clean}
 use Rattle.rules.proofs.Booleans.{decide, never, and-left, and-right}
 use Rattle.record.proofs.Keys.{lt-or-le, clash, le-le-eq, lt-lt-lt, le-lt-lt, le-le-le}
 use Rattle.rules.proofs.Members.{Mem, here, there}

@@ -24,7 +24,8 @@ returns c =
     let a = c .before .before .before .before .before .before .before .before .before .args in
     let h = hist (a .log .now) (a .count) in
     let x = decode (a .rec .now) in
-    λ ix e. lowered-met (a .range) (rangeIn (a .best)) (passes (a .others) (x .spans) (a .range)) (holds (meets (spanOf (a .k) x)) (holdOf (a .node .0) (a .range) h))
+    λ ix e. lowered-met (a .range) (rangeIn (a .best)) (passes (a .others) (x .spans) (a .range))
+    (holds (meets (spanOf (a .k) x)) (holdOf (a .node .0) (a .range) h))
     (c .before .before .before .before .before .is-below .ensures) (c .before .before .before .before .if1 .taken) (c .before .before .before .passes .ensures) (c .before .before .if2 .taken) (c .before .is-met .ensures ix e) (c .if3 .taken)
 
 returns-2 : tie.Need-returns-2
@@ -32,7 +33,8 @@ returns-2 c =
     let a = c .before .before .before .before .before .before .before .before .before .args in
     let h = hist (a .log .now) (a .count) in
     let x = decode (a .rec .now) in
-    λ ix e. lowered-apart (a .range) (rangeIn (a .best)) (passes (a .others) (x .spans) (a .range)) (holds (meets (spanOf (a .k) x)) (holdOf (a .node .0) (a .range) h))
+    λ ix e. lowered-apart (a .range) (rangeIn (a .best)) (passes (a .others) (x .spans) (a .range))
+    (holds (meets (spanOf (a .k) x)) (holdOf (a .node .0) (a .range) h))
     (c .before .before .before .before .before .is-below .ensures) (c .before .is-met .ensures ix e) (c .if3 .left)
 
 returns-3 : tie.Need-returns-3
@@ -40,7 +42,8 @@ returns-3 c =
     let a = c .before .before .before .before .before .before .before .args in
     let h = hist (a .log .now) (a .count) in
     let x = decode (a .rec .now) in
-    λ ix e. lowered-spared (a .range) (rangeIn (a .best)) (passes (a .others) (x .spans) (a .range)) (holds (meets (spanOf (a .k) x)) (holdOf (a .node .0) (a .range) h))
+    λ ix e. lowered-spared (a .range) (rangeIn (a .best)) (passes (a .others) (x .spans) (a .range))
+    (holds (meets (spanOf (a .k) x)) (holdOf (a .node .0) (a .range) h))
     (c .before .before .before .is-below .ensures) (c .before .passes .ensures) (c .if2 .left)
 
 returns-4 : tie.Need-returns-4
@@ -48,7 +51,8 @@ returns-4 c =
     let a = c .before .before .before .before .before .args in
     let h = hist (a .log .now) (a .count) in
     let x = decode (a .rec .now) in
-    λ ix e. lowered-above (a .range) (rangeIn (a .best)) (passes (a .others) (x .spans) (a .range)) (holds (meets (spanOf (a .k) x)) (holdOf (a .node .0) (a .range) h))
+    λ ix e. lowered-above (a .range) (rangeIn (a .best)) (passes (a .others) (x .spans) (a .range))
+    (holds (meets (spanOf (a .k) x)) (holdOf (a .node .0) (a .range) h))
     (c .before .is-below .ensures) (c .if1 .left)
 
 pub lowered-spec : {M : Type 1} → statement M

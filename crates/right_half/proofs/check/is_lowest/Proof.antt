@@ -22,7 +22,8 @@ is-above-requires c κs = search needs
 returns : tie.Need-returns
 returns c =
     let a = c .before .before .before .before .before .args in
-    λ ix. lowest-above (anyOf (λ v. eqb v (serverOf (a .node .0) (hist (a .log .now) (a .count)) .0)) (decode (a .found .now) .voters)) (not (hasHold (a .node .0) (a .right) (hist (a .log .now) (a .count)))) (sym (c .before .is-above .ensures) ∙ c .if1 .taken)
+    λ ix. lowest-above (anyOf (λ v. eqb v (serverOf (a .node .0) (hist (a .log .now) (a .count)) .0)) (decode (a .found .now) .voters))
+    (not (hasHold (a .node .0) (a .right) (hist (a .log .now) (a .count)))) (sym (c .before .is-above .ensures) ∙ c .if1 .taken)
 
 server-of-requires : tie.Need-server-of-requires
 server-of-requires c κs = search needs
