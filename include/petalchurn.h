@@ -1,8 +1,9 @@
 /* Petalchurn, a judge of recorded traces: the interface for C, and for any language that can call C.
  *
  * A trace is a run of records of 368 bytes each. A judge takes them one at a time and reports, for eight checks, the first fault
- * or a pass. docs/MANUAL.md says what a record holds and what each check means. Every function of the library is proved against
- * its contract (crates/petalchurn/specs); none has a condition on the values that it is given.
+ * or a pass. The judges of many traces are entered into a tally, which counts them. docs/MANUAL.md says what a record holds and
+ * what each check means. Every function of the library is proved against its contract (crates/petalchurn/specs); none has a
+ * condition on the values that it is given.
  *
  * Version
  *   PETALCHURN_VERSION is this header's version, petalchurn_version() that of the library which was linked. The number rises
@@ -15,20 +16,26 @@
  *     log     368 * C bytes: the records taken, one after the other
  *     work    32 * C words: what the checks note
  *   C is the capacity, the most records that the judge takes: 1 to 4096.
- *   A buffer is passed as a pointer and a length: bytes for log, rec and trace, words of 64 bits for the others. A pointer is not
- *   null, also where the length is 0, and is aligned for its elements; a buffer that a call writes overlaps no other of that call.
+ *   A tally belongs to no judge: PETALCHURN_TALLY_SIZE bytes, which count the judges of a campaign of traces. It starts as zeros.
+ *   Its bytes do not depend on the machine: it may be stored in a file as it is, and read back to be raised further.
+ *   A buffer is passed as a pointer and a length: bytes for log, rec, trace and tally, words of 64 bits for the others. A pointer
+ *   is not null, also where the length is 0, and is aligned for its elements; a buffer that a call writes overlaps no other of
+ *   that call.
  *   If state, log and work do not come from one run of calls, every call is still safe. A push then still gives the refusals of
  *   the table, and one that takes its record still counts it, copies it to its place and changes no other byte of the log; a
- *   report still is what stands in state, and a look-up is still refused by 5 where the table says so and else by 8 alone, which
- *   only petalchurn_holders_of and petalchurn_blocks give. Nothing is promised of the reports and words that such a push writes,
- *   nor of what a look-up that is not refused answers. A refused push, report or look-up still leaves every buffer as it was.
+ *   report still is what stands in state, and so is what an entry counts; a look-up is still refused by 5 where the table says so
+ *   and else by 8 alone, which only petalchurn_holders_of and petalchurn_blocks give. Nothing is promised of the reports and words
+ *   that such a push writes, nor of what a look-up that is not refused answers. A refused push, report, look-up or entry still
+ *   leaves every buffer as it was.
  *
  * At the same time
  *   A call touches no memory but the buffers that it is given and its stack, and takes no lock. Two calls may run at the same
  *   time unless one of them writes a buffer that the other is given too. So on one judge
  *     petalchurn_report and the look-ups, which only read its three buffers, may run together, each with an out of its own;
+ *     petalchurn_tally_enter, which only reads state, may run beside those, each with a tally of its own;
  *     petalchurn_push writes all three and needs them alone; petalchurn_open and petalchurn_trace need alone what they are given.
- *   Calls on different judges are independent; they may read one record or one trace together.
+ *   Calls on different judges are independent; they may read one record or one trace together. But each entry writes its tally:
+ *   entries into one tally come one after the other, whichever judges they are of.
  *
  * Refusals
  *   A refused call returns a number from this table, else 0; a look-up has it in its answer. A refused call leaves every buffer
@@ -38,20 +45,28 @@
  *     3  node mark not 0 or 1; sub-code, flag, voter count or span count not one of the kind's values (0 alone where it has
  *        none); a counted span's key length above 31
  *     4  a place that the kind does not use is not zero: also the node without its mark, a parent without the flag, bytes 50 to
- *        55, voters and spans past their counts, a key's padding, kind 3's end
+ *        55, voters and spans past their counts, a key's padding, kind 3's end; or a place that a tally does not use is not zero
  *     5  state is no judge's: not 59 words, a report's kind above 255, a capacity above 4096, a count above the capacity; or log
- *        is not 368 * capacity bytes, or work not 32 * capacity words
+ *        is not 368 * capacity bytes, or work not 32 * capacity words; or tally is not 360 bytes, or a report to be counted has a
+ *        kind that its check lacks
  *     6  the judge has taken as many records as its capacity
  *     7  for no capacity from 1 to 4096 is log 368 * C bytes and work 32 * C words
  *     8  the list for the answer is too short (for petalchurn_open: state is not 59 words)
+ *     9  a count of a tally that is to be raised would pass 4294967295
  *   A push tests 5, 1, 2, 3, 4, 6 in that order. petalchurn_report and the look-ups test 5, then 8. petalchurn_open and
- *   petalchurn_trace test 8, then 7; petalchurn_trace then pushes.
+ *   petalchurn_trace test 8, then 7; petalchurn_trace then pushes. petalchurn_tally_enter tests 5, 4, 9.
  *
  * A report is seven words: its kind, the number of the record that it arose at (from 1), and five evidence numbers, missing ones
  * 0. A pass is seven zeros. The eight reports, numbered in printing order:
  *     1 agreement  2 overlap  3 install  4 twice  5 half  6 generations  7 ids  8 meta
  *
  * The 59 words of state: capacity, count of the records taken, tenant, then the eight reports, seven words each.
+ *
+ * The 360 bytes of a tally: nine records of ten counts, each of 32 bits, little-endian. The count at place p of record r, both
+ * from 0, is the four bytes from 40 * r + 4 * p on.
+ *     records 0 to 7   a check each, in printing order: at place 0 the traces that passed, at place k those with a fault of kind k
+ *     record 8         the totals: at place 0 the traces, at place 1 the records taken
+ * Every other place is unused, and zero. How many kinds of fault a check has, in printing order: 3, 1, 1, 1, 2, 2, 3, 4.
  *
  * Usage: a judge for up to 96 records
  *     static uint8_t log_[368 * 96];
@@ -66,6 +81,9 @@
  *     petalchurn_report(state, PETALCHURN_STATE_WORDS, 7, report, PETALCHURN_REPORT_WORDS);
  *     if (report[0] != 0)
  *         printf("ids: fault %" PRIu64 " at record %" PRIu64 "\n", report[0], report[1]);
+ * and, with one static uint8_t tally[PETALCHURN_TALLY_SIZE] for all traces,
+ *     if ((refusal = petalchurn_tally_enter(state, PETALCHURN_STATE_WORDS, tally, sizeof tally)) != 0)
+ *         return 1;
  */
 #ifndef PETALCHURN_H
 #define PETALCHURN_H
@@ -77,13 +95,14 @@
 extern "C" {
 #endif
 
-#define PETALCHURN_VERSION 1        /* rises with every change of this interface */
+#define PETALCHURN_VERSION 2        /* rises with every change of this interface */
 #define PETALCHURN_RECORD_SIZE 368  /* bytes of a record */
 #define PETALCHURN_WORK_WORDS 32    /* words of the work area for each record of the capacity */
 #define PETALCHURN_CAPACITY 4096    /* the largest capacity */
 #define PETALCHURN_STATE_WORDS 59   /* words of a judge */
 #define PETALCHURN_REPORT_WORDS 7   /* words of a report */
 #define PETALCHURN_TRACE_WORDS 58   /* words of a whole trace's answer */
+#define PETALCHURN_TALLY_SIZE 360   /* bytes of a tally */
 
 /* What a look-up answers: the refusal's number, and the value, which is 0 where the call is refused. */
 typedef struct {
@@ -149,6 +168,15 @@ petalchurn_answer petalchurn_holders_of(const uint64_t *state, size_t state_len,
                                         const uint64_t *work, size_t work_len, uint64_t id, uint64_t *out, size_t out_len);
 petalchurn_answer petalchurn_blocks(const uint64_t *state, size_t state_len, const uint8_t *log, size_t log_len,
                                     const uint64_t *work, size_t work_len, uint64_t *out, size_t out_len);
+
+/* Enters a judge into a tally: for each check raises its passes or the faults of its report's kind by one, the traces by one, and
+ * the records by those that the judge has taken; every other byte stays. From a tally of zeros, after any entries, every count is
+ * that of the entries not refused, and each check's passes and faults add up to the traces. Whether a tally that is given adds up
+ * is not tested. State is only read; log and work are not needed. Whether the judge has finished is not tested either: it counts
+ * as it stands, and again if it is entered again; one whose opening was refused counts as eight passes, with no records.
+ * Refusals: 5 (by the state alone, a report's kind, or the tally's length), 4, 9 (a full count that is not to be raised is none).
+ * All are tested before anything is added; a refused entry leaves the tally as it was. */
+uint64_t petalchurn_tally_enter(const uint64_t *state, size_t state_len, uint8_t *tally, size_t tally_len);
 
 #ifdef __cplusplus
 }

@@ -6,6 +6,7 @@ mod direct;
 mod hard;
 mod sides;
 mod story;
+mod tally;
 mod worst;
 
 use std::hint::black_box;
@@ -148,9 +149,14 @@ fn repeat(row: &Row, times: usize) {
     }
 }
 
+/// Whether a row's name has one of the words; without words all are wanted.
+fn is_wanted(words: &[String], name: &str) -> bool {
+    words.is_empty() || words.iter().any(|word| name.contains(word))
+}
+
 /// The rows whose names have one of the words; the hard ones only where they are asked for.
 fn rows(words: &[String], hard: bool) -> Vec<Row> {
-    let wanted = |name: &str| words.is_empty() || words.iter().any(|word| name.contains(word));
+    let wanted = |name: &str| is_wanted(words, name);
     let mut rows = Vec::new();
     for (name, tellers, noise) in STORIES {
         if wanted(name) {
@@ -192,9 +198,15 @@ fn main() {
             assert_eq!(faults(row), 0, "a well-behaved trace must pass");
         }
     }
-    println!("| trace | records | faults | {} | judge/Rust | judge/direct |", NAMES.join(" | "));
-    println!("|---|---|---|---|---|---|---|---|---|---|---|");
+    if !rows.is_empty() {
+        let names = NAMES.join(" | ");
+        println!("| trace | records | faults | {names} | judge/Rust | judge/direct |");
+        println!("|---|---|---|---|---|---|---|---|---|---|---|");
+    }
     for row in &rows {
         print(row, rounds, capacity, loose);
+    }
+    if size.is_none_or(|size| size == tally::RECORDS) {
+        tally::print(&words, rounds);
     }
 }

@@ -51,7 +51,7 @@ unsafe extern "C" {
 const ANSWER: usize = 58;
 
 /// How many words a judge has: capacity, count, tenant, eight reports of seven.
-const STATE: usize = 59;
+pub const STATE: usize = 59;
 
 /// The buffers that a host lends the judge, for one capacity.
 pub struct Buffers {
@@ -127,6 +127,11 @@ impl Buffers {
     /// The same of the last trace that was pushed.
     pub fn pushed(&self) -> (u64, Reports) {
         (self.state[1], std::array::from_fn(|check| report(&self.state[3 + 7 * check..])))
+    }
+
+    /// The judge of the last trace that was pushed.
+    pub fn state(&self) -> [u64; STATE] {
+        self.state
     }
 }
 

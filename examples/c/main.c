@@ -1,4 +1,5 @@
-/* A C host: the library's version, then two grants of ids that share an id, pushed one at a time and then judged as one trace. */
+/* A C host: the library's version, then two grants of ids that share an id, pushed one at a time, counted in a tally, and then
+ * judged as one trace. */
 #include <inttypes.h>
 #include <stdio.h>
 #include <string.h>
@@ -10,6 +11,7 @@
 static uint8_t log_bytes[PETALCHURN_RECORD_SIZE * CAPACITY];
 static uint64_t work[PETALCHURN_WORK_WORDS * CAPACITY];
 static uint64_t state[PETALCHURN_STATE_WORDS];
+static uint8_t tally[PETALCHURN_TALLY_SIZE];
 
 static const char *const checks[8] = {"agreement", "overlap", "install", "twice", "half", "generations", "ids", "meta"};
 
@@ -38,6 +40,12 @@ static void print_report(const char *check, const uint64_t *report) {
     for (size_t i = 2; i < PETALCHURN_REPORT_WORDS; i++)
         printf(" %" PRIu64, report[i]);
     printf("\n");
+}
+
+/* The count at a place of a record of the tally: of a check in printing order, or of the totals, the last. */
+static uint32_t counted(size_t record, size_t place) {
+    const uint8_t *at = tally + 40 * record + 4 * place;
+    return at[0] | (uint32_t)at[1] << 8 | (uint32_t)at[2] << 16 | (uint32_t)at[3] << 24;
 }
 
 static uint64_t push(const uint8_t *rec, size_t len) {
@@ -76,6 +84,10 @@ int main(void) {
     petalchurn_answer holders = petalchurn_holders_of(state, PETALCHURN_STATE_WORDS, log_bytes, sizeof log_bytes, work,
                                                       CAPACITY * PETALCHURN_WORK_WORDS, 19, list, 1);
     printf("holders in one word %" PRIu64 " %" PRIu64 "\n", holders.refusal, holders.value);
+
+    printf("tally %" PRIu64 "\n", petalchurn_tally_enter(state, PETALCHURN_STATE_WORDS, tally, sizeof tally));
+    printf("%s faults of kind 3: %" PRIu32 " of %" PRIu32 " traces, %" PRIu32 " records\n", checks[6], counted(6, 3), counted(8, 0),
+           counted(8, 1));
 
     printf("trace %" PRIu64 "\n", petalchurn_trace(0, log_bytes, sizeof log_bytes, work, CAPACITY * PETALCHURN_WORK_WORDS, trace,
                                                    sizeof trace, answer, PETALCHURN_TRACE_WORDS));

@@ -1,4 +1,5 @@
-//! A Rust host: the library's version, then two grants of ids that share an id, pushed one at a time and then judged as one trace.
+//! A Rust host: the library's version, then two grants of ids that share an id, pushed one at a time, counted in a tally, and then
+//! judged as one trace.
 
 /// What a look-up answers: the refusal's number, and the value, 0 where the call is refused.
 #[repr(C)]
@@ -71,16 +72,23 @@ mod library {
             out: *mut u64,
             out_len: usize,
         ) -> u64;
+        pub fn petalchurn_tally_enter(
+            state: *const u64,
+            state_len: usize,
+            tally: *mut u8,
+            tally_len: usize,
+        ) -> u64;
     }
 }
 
 // The macros of the header.
-const VERSION: u64 = 1;
+const VERSION: u64 = 2;
 const RECORD_SIZE: usize = 368;
 const WORK_WORDS: usize = 32;
 const STATE_WORDS: usize = 59;
 const REPORT_WORDS: usize = 7;
 const TRACE_WORDS: usize = 58;
+const TALLY_SIZE: usize = 360;
 
 const CHECKS: [&str; 8] = [
     "agreement", "overlap", "install", "twice", "half", "generations", "ids", "meta",
@@ -173,6 +181,17 @@ impl Judge {
         }
     }
 
+    fn enter(&self, tally: &mut [u8]) -> u64 {
+        unsafe {
+            library::petalchurn_tally_enter(
+                self.state.as_ptr(),
+                self.state.len(),
+                tally.as_mut_ptr(),
+                tally.len(),
+            )
+        }
+    }
+
     fn trace(&mut self, tenant: u64, trace: &[u8], out: &mut [u64]) -> u64 {
         unsafe {
             library::petalchurn_trace(
@@ -212,6 +231,12 @@ fn print_report(check: &str, report: &[u64]) {
     }
 }
 
+/// The count at a place of a record of a tally: of a check in printing order, or of the totals, the last.
+fn counted(tally: &[u8], record: usize, place: usize) -> u32 {
+    let at = 40 * record + 4 * place;
+    u32::from_le_bytes(tally[at..at + 4].try_into().expect("four bytes"))
+}
+
 fn main() {
     let version = unsafe { library::petalchurn_version() };
     println!("version {version}");
@@ -244,6 +269,11 @@ fn main() {
     println!("blocks {} {}:{}", blocks.refusal, blocks.value, words(&list[..3 * blocks.value as usize]));
     let holders = judge.holders_of(19, &mut list[..1]);
     println!("holders in one word {} {}", holders.refusal, holders.value);
+
+    let mut tally = [0; TALLY_SIZE];
+    println!("tally {}", judge.enter(&mut tally));
+    let (faults, traces, records) = (counted(&tally, 6, 3), counted(&tally, 8, 0), counted(&tally, 8, 1));
+    println!("{} faults of kind 3: {faults} of {traces} traces, {records} records", CHECKS[6]);
 
     let mut answer = [0; TRACE_WORDS];
     println!("trace {}", judge.trace(0, &[first, second].concat(), &mut answer));

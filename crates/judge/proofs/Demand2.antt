@@ -14,7 +14,6 @@ use Rattle.rules.specs.Reports.{passed}
 use Rattle.rules.specs.Checks.{checkCount, reportsOf}
 use Rattle.history.specs.Logs.{hist}
 use Rattle.judge.specs.declared.opening.Opened.{Opened}
-use Rattle.judge.specs.declared.state.Judge.{Judge}
 use Rattle.judge.specs.Openings.{Fits, Opens}
 use Rattle.judge.specs.States.{State, suits}
 use Rattle.intake.specs.Refusals.{fitsBy}
@@ -26,8 +25,7 @@ use Rattle.judge.specs.Runs.{After, Run, stateOf, reportAt}
 use Rattle.judge.specs.Demand2.{Demand2}
 use Rattle.intake.proofs.Suiting.{fits-by}
 use Rattle.judge.proofs.Suiting.{state-suiting}
-use Rattle.judge.proofs.Openings.{opened-after}
-use Rattle.judge.proofs.Demand3.{ran}
+use Rattle.judge.proofs.Demand3.{opened-ran}
 
 module _ (h : History) (t : State) (a : After Indexed h t) where
   suited : lends (t .judge) (t .log) (t .work) ≡ true
@@ -41,7 +39,7 @@ module _ (h : History) (t : State) (a : After Indexed h t) where
   indexed : Indexed (t .judge .capacity) (hist (t .log) (t .judge .count)) (t .work)
   indexed = subst (λ (g : History). Indexed (t .judge .capacity) g (t .work)) (sym taken) (a .words)
 
-  fitting : fitsBy (t .judge .capacity) (t .judge .count) ≡ true
+  pub fitting : fitsBy (t .judge .capacity) (t .judge .count) ≡ true
   fitting = let u = state-suiting t (a .fits) in fits-by (u .small) (u .within)
 
   -- the call for a report: its number is a check's
@@ -67,7 +65,5 @@ pub demand2 : (n : Opening) (c : ℕ) (log work : List ℕ) (o : Opened) (work�
     → Opens n (length log) work o work′
     → (cs : List Call) (t : State) → Run Indexed (stateOf (o .judge) log work′) cs t → Demand2 n (takenOf c cs []) t
 demand2 n c log work o work′ f p cs t r =
-    let q = p .opened c f .1 in
-    let w = ran Indexed [] (opened-after n c log work o work′ f p) r in
-    let e : takenOf (o .judge .capacity) cs [] ≡ takenOf c cs [] = ap (λ (j : Judge). takenOf (j .capacity) cs []) q in
-    demand2-of (takenOf c cs []) t (subst (λ (g : History). After Indexed g t) e (w .after)) n (w .opening ∙ ap (λ (j : Judge). j .opening) q)
+    let w = opened-ran n c log work o work′ f p cs t r in
+    demand2-of (takenOf c cs []) t (w .after) n (w .opening)

@@ -126,11 +126,19 @@ module _ (Indexed : Indexing) where
   pub demand3-of : (o : Opening) (h : History) (t : State) → After Indexed h t → t .judge .opening ≡ o → Demand3 Indexed o h t
   demand3-of o h t a e = record { claim = λ k l history. claim o k l h t a e }
 
-  pub demand3-from : (o t : State) (cs : List Call) → After Indexed [] o → Run Indexed o cs t
-      → Demand3 Indexed (o .judge .opening) (takenOf (o .judge .capacity) cs []) t
-  demand3-from o t cs a r =
-      let w = ran [] a r in
-      demand3-of (o .judge .opening) (takenOf (o .judge .capacity) cs []) t (w .after) (w .opening)
+-- a list of calls from what an opening without refusal gave leaves the state after the records that it takes
+pub opened-ran : (n : Opening) (c : ℕ) (log work : List ℕ) (o : Opened) (work′ : List ℕ) → Fits (length log) (length work) c
+    → Opens n (length log) work o work′
+    → (cs : List Call) (t : State) → Run Indexed (stateOf (o .judge) log work′) cs t → Ran Indexed c n (takenOf c cs []) t
+opened-ran n c log work o work′ f p cs t r =
+    let q = p .opened c f .1 in
+    let w = ran Indexed [] (opened-after n c log work o work′ f p) r in
+    let e : takenOf (o .judge .capacity) cs [] ≡ takenOf c cs [] = ap (λ (j : Judge). takenOf (j .capacity) cs []) q in
+    record {
+      after = subst (λ (g : History). After Indexed g t) e (w .after);
+      capacity = w .capacity ∙ ap (λ (j : Judge). j .capacity) q;
+      opening = w .opening ∙ ap (λ (j : Judge). j .opening) q;
+    }
 
 -- THE THIRD DEMAND, of the judge: "Demand 3's list starts from what an opening without refusal gave, whatever the log held". One
 -- claim about every list of calls
@@ -138,7 +146,5 @@ pub demand3 : (n : Opening) (c : ℕ) (log work : List ℕ) (o : Opened) (work�
     → Opens n (length log) work o work′
     → (cs : List Call) (t : State) → Run Indexed (stateOf (o .judge) log work′) cs t → Demand3 Indexed n (takenOf c cs []) t
 demand3 n c log work o work′ f p cs t r =
-    let q = p .opened c f .1 in
-    let d = demand3-from Indexed (stateOf (o .judge) log work′) t cs (opened-after n c log work o work′ f p) r in
-    subst (λ (m : Opening). Demand3 Indexed m (takenOf c cs []) t) (ap (λ (j : Judge). j .opening) q)
-    (subst (λ (m : ℕ). Demand3 Indexed (o .judge .opening) (takenOf m cs []) t) (ap (λ (j : Judge). j .capacity) q) d)
+    let w = opened-ran n c log work o work′ f p cs t r in
+    demand3-of Indexed n (takenOf c cs []) t (w .after) (w .opening)

@@ -70,8 +70,8 @@ pub(crate) fn refusal_of(number: u64) -> Refusal
 }
 
 impl Judge {
-    // Whether the judge's numbers are those of a judge.
-    pub(crate) fn fits(self) -> Tested
+    // Whether the judge's numbers are those of a judge: else its reports are refused.
+    pub fn fits(self) -> Tested
         ensures { λ r. ⌜ (r .holds ≡ fitsBy (self .capacity) (self .count)) × (r .judge ≡ self) ⌝ }
     {
         Tested {

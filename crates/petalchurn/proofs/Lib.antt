@@ -2,3 +2,4 @@
 pub mod CallLaws
 pub mod AnswerLaws
 pub mod Runs
+pub mod Campaigns

@@ -81,8 +81,8 @@ module _ (o : Opening) (c : ℕ) (log work state : List ℕ) (r : ℕ) (work′ 
       subst (λ (w : List ℕ). Run Indexed (stateOf (freshOf c o) log w) cs (stateAt z)) (opens .opened size c fits .1)
       (subst (λ (j : Judge). Run Indexed (stateOf (freshOf c o) log work′) cs (stateOf j (z .log) (z .work))) (sym read) (left .run))
 
-  ran-by : Ran Indexed c o (takenOf c cs []) (stateAt z)
-  ran-by = ran Indexed [] (fresh-after o c log work fits) library-run
+  pub library-ran : Ran Indexed c o (takenOf c cs []) (stateAt z)
+  library-ran = ran Indexed [] (fresh-after o c log work fits) library-run
 
 -- ---- what is then read and asked
 
@@ -143,7 +143,7 @@ pub library-demands : (o : Opening) (c : ℕ) (log work state : List ℕ) (r : �
 library-demands o c log work state r work′ state′ n f q cs z p =
     let l = left o c log work state r work′ state′ n f q cs z p in
     let e = read o c log work state r work′ state′ n f q cs z p in
-    demands o c (takenOf c cs []) z (l .is ∙ ap some (sym e)) (ran-by o c log work state r work′ state′ n f q cs z p)
+    demands o c (takenOf c cs []) z (l .is ∙ ap some (sym e)) (library-ran o c log work state r work′ state′ n f q cs z p)
 
 -- ---- a whole trace
 

@@ -1,6 +1,6 @@
 -- The laws of the table of checks: how many there are, what holds of each, and that each check's report is right.
 use mathlib.Core.Path.{_≡_, refl, ap, _∙_}
-use mathlib.Core.Bool.{true}
+use mathlib.Core.Bool.{Bool, true, _&&_}
 use mathlib.Core.List.{List, [], _∷_, map}
 use Prim.Native.Nat.{ℕ, zero, suc, _<_}
 use native.Mathlib.Omega.{arith}
@@ -12,6 +12,7 @@ use Rattle.rules.specs.declared.Report.{Report}
 use Rattle.rules.specs.History.{History}
 use Rattle.rules.specs.Reports.{passed, Right, reportOf}
 use Rattle.rules.specs.Checks.{Rule, atRecord, whole, Check, checks, checkCount, checkAt, caseBy, HasBy, caseAt, reportBy, reportsOf, Every}
+use Rattle.rules.proofs.Booleans.{and-left, and-right}
 use Rattle.rules.proofs.Reports.{whole-right, arises-right, agreement-none}
 
 -- the number of checks is the table's
@@ -26,6 +27,25 @@ every-at P (c ∷ cs) d p (suc k) l = every-at P cs d (p .1) k (omega arith)
 
 pub check-at : (P : Check → Type 0) → Every P checks → (k : ℕ) → k < checkCount → P (checkAt k)
 check-at P p k l = every-at P checks (checkAt checkCount) p k l
+
+-- a test that every check of a list passes, as the checker computes it
+unfoldable pub allBy : (Check → Bool) → List Check → Bool
+allBy f [] = true
+allBy f (c ∷ cs) = f c && allBy f cs
+
+pub every-by : (f : Check → Bool) (cs : List Check) → allBy f cs ≡ true → Every (λ c. f c ≡ true) cs
+unfolding allBy
+every-by f [] e = tt
+every-by f (c ∷ cs) e = (and-left (f c) (allBy f cs) e, every-by f cs (and-right (f c) (allBy f cs) e))
+
+-- a list of the checks' kinds has at each place those of the check there
+kinds-at : (cs : List Check) (d : Check) (k : ℕ) → k < length cs → getD (map (λ c. c .kinds) cs) k 0 ≡ getD cs k d .kinds
+kinds-at [] d k l = absurd (omega arith)
+kinds-at (c ∷ cs) d zero l = refl
+kinds-at (c ∷ cs) d (suc k) l = kinds-at cs d k (omega arith)
+
+pub kinds-listed : (ns : List ℕ) → ns ≡ map (λ c. c .kinds) checks → (k : ℕ) → k < checkCount → getD ns k 0 ≡ checkAt k .kinds
+kinds-listed ns e k l = ap (λ (ms : List ℕ). getD ms k 0) e ∙ kinds-at checks (checkAt checkCount) k l
 
 -- the report at a place is that of the check at that place
 map-at : (o : Opening) (h : History) (cs : List Check) (d : Check) (k : ℕ) → k < length cs → getD (map (reportBy o h) cs) k passed ≡ reportBy o h (getD cs k d)

@@ -20,6 +20,7 @@ use Rattle.rules.specs.Descriptors.{stated, putsDiffer, agreement}
 use Rattle.rules.specs.Reports.{first, position, AtRecord, atLast, HasWhole, Arises, FirstFault, passed, faulted, Right, atFirst, reportOf}
 use Rattle.rules.proofs.Booleans.{never}
 use Rattle.rules.proofs.Beginnings.{first-later, first-all, first-nil}
+use Rattle.rules.proofs.CaseLists.{clear-of}
 
 -- ---- one more record
 
@@ -69,6 +70,13 @@ module _ (f : History → Case) where
   pub reportOf-pass : (x : TraceRecord) (h : History) → reportOf f (x ∷ h) .verdict ≡ Pass → (reportOf f h .verdict ≡ Pass) × (isFault (f (x ∷ h)) ≡ false)
   reportOf-pass x h e =
       pass-by (reportOf f h .verdict) (reportOf f h) (f (x ∷ h)) (position (x ∷ h)) refl (ap (λ (r : Report). r .verdict) (sym (reportOf-step x h)) ∙ e)
+
+  -- a report that passes is the report of a pass
+  pub reportOf-passed : (h : History) → reportOf f h .verdict ≡ Pass → reportOf f h ≡ passed
+  reportOf-passed [] v = reportOf-none
+  reportOf-passed (x ∷ h) v =
+      let before = reportOf-pass x h v in
+      reportOf-clear x h (reportOf-passed h (before .0)) (clear-of (f (x ∷ h)) (before .1))
 
   -- "after a fault the report stays", whatever records follow
   pub reportOf-stays : (more : List TraceRecord) (h : History) (kind : ℕ) → reportOf f h .verdict ≡ Faulted kind

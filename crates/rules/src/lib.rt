@@ -1,7 +1,14 @@
-// The types that the rules and the crates above share: what a check says of a record, and what it reports of a trace.
+// The types that the rules and the crates above share: what a check says of a record, and what it reports of a trace. And of the table
+// of checks (specs/Checks.antt) what code needs to know.
+ghost use mathlib.Core.Path.{_≡_};
+ghost use Prim.Native.Nat.{_<_};
+ghost use Rattle.rules.specs.Checks.{checkCount, checkAt};
 
-// How many checks there are: as many as the table of checks has (specs/Checks.antt).
+// How many checks there are: as many as the table has.
 pub const CHECKS: usize = 8;
+
+// How many kinds of faults each check has, in printing order.
+const KINDS: [usize; CHECKS] = [3, 1, 1, 1, 2, 2, 3, 4];
 
 // The numbers that an opening fixes: the tenant that stands for `RAFT_TENANT`.
 pub struct Opening {
@@ -39,4 +46,12 @@ pub struct Report {
 pub enum Found {
     At(u64),
     Nothing,
+}
+
+// How many kinds of faults the check at a place of the table has: they are 1 to that number.
+pub fn kinds_of(check: usize) -> usize
+    requires { ⌜ check < checkCount ⌝ }
+    ensures { λ r. ⌜ r ≡ checkAt check .kinds ⌝ }
+{
+    KINDS[check]
 }

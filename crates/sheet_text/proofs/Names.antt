@@ -8,9 +8,9 @@ use native.Mathlib.Omega.{arith}
 use lib.ListN.{length, getD, take, set}
 use lib.Dec.{ltb, leb}
 use borrow.Author.Tests.{ltb-true, leb-true}
-use Rattle.rules.specs.Checks.{Check, checks, checkCount, checkAt, Every}
+use Rattle.rules.specs.Checks.{Check, checks, checkCount, checkAt}
 use Rattle.rules.proofs.Booleans.{and-left, and-right}
-use Rattle.rules.proofs.Checks.{check-at}
+use Rattle.rules.proofs.Checks.{check-at, allBy, every-by}
 use Rattle.sheet_text.specs.Sheets.{text, nameAt, nameSize}
 use Rattle.sheet_text.specs.Appends.{Appended}
 use Rattle.sheet_text.proofs.Appends.{appended-most, appended-take, appended-all}
@@ -21,16 +21,6 @@ use Rattle.sheet_text.proofs.Appends.{appended-most, appended-take, app
 unfoldable pub worded : List ℕ → Bool
 worded [] = true
 worded (x ∷ xs) = ltb 32 x && worded xs
-
--- a test that every check of a list passes, as the checker computes it
-allBy : (Check → Bool) → List Check → Bool
-allBy f [] = true
-allBy f (c ∷ cs) = f c && allBy f cs
-
-every-by : (f : Check → Bool) (cs : List Check) → allBy f cs ≡ true → Every (λ c. f c ≡ true) cs
-unfolding allBy
-every-by f [] e = tt
-every-by f (c ∷ cs) e = (and-left (f c) (allBy f cs) e, every-by f cs (and-right (f c) (allBy f cs) e))
 
 pub name-short : (k : ℕ) → k < checkCount → length (nameAt k) ≤ nameSize
 unfolding allBy

@@ -52,6 +52,12 @@ unsafe extern "C" {
         out: *mut u64,
         out_len: usize,
     ) -> u64;
+    fn petalchurn_tally_enter(
+        state: *const u64,
+        state_len: usize,
+        tally: *mut u8,
+        tally_len: usize,
+    ) -> u64;
 }
 
 /// Declares look-ups that take a state, a log, a work area and so many numbers.
@@ -116,9 +122,16 @@ const BEFORE: u8 = 0xa5;
 
 impl Host {
     pub fn open(tenant: u64, capacity: usize) -> Host {
+        let (refusal, host) = Host::lent(tenant, RECORD * capacity, WORDS * capacity);
+        assert_eq!(refusal, 0, "an opening of capacity {capacity}");
+        host
+    }
+
+    /// The refusal of an opening over so many bytes and words, and what it gives.
+    pub fn lent(tenant: u64, bytes: usize, words: usize) -> (u64, Host) {
         let mut host = Host {
-            log: vec![BEFORE; RECORD * capacity],
-            work: vec![u64::from(BEFORE); WORDS * capacity],
+            log: vec![BEFORE; bytes],
+            work: vec![u64::from(BEFORE); words],
             state: [u64::MAX; STATE],
             reports: Reports::default(),
         };
@@ -133,8 +146,7 @@ impl Host {
                 STATE,
             )
         };
-        assert_eq!(refusal, 0, "an opening of capacity {capacity}");
-        host
+        (refusal, host)
     }
 
     /// The refusal of a push.
@@ -199,6 +211,12 @@ pub fn whole(tenant: u64, capacity: usize, trace: &[u8]) -> (u64, [u64; 58]) {
         )
     };
     (refusal, out)
+}
+
+/// The refusal of an entry of a judge's words into a tally. The words are lent as if they were
+/// written: else the compiler might take it that they are not, and a comparison would see nothing.
+pub fn enter(state: &mut [u64], tally: &mut [u8]) -> u64 {
+    unsafe { petalchurn_tally_enter(state.as_ptr(), state.len(), tally.as_mut_ptr(), tally.len()) }
 }
 
 /// 0 stands for none.

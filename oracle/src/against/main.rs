@@ -5,11 +5,14 @@
 //!   against full [TRACES_PER_PROFILE]     the same with 1,000 to 4,096 records
 //!   against exhaustive                    all short traces over small alphabets
 //!   against form [SEED]                   damaged records: the refusal, and nothing moved
+//!   against tally [ENTRIES [SEED]]        a campaign, and entries of every sort into a tally
 //!
 //! All reports after each record, every look-up, and the whole trace in one
-//! call. A disagreement is shrunk, printed, and ends the run with status 1.
+//! call; then the judge is entered into its row's tally. A disagreement is
+//! shrunk, printed, and ends the run with status 1.
 
 mod host;
+mod tallies;
 
 use std::process::exit;
 use std::time::Instant;
@@ -24,6 +27,7 @@ use oracle::minimise::minimise;
 use oracle::report::Reports;
 use oracle::text::{readable, record_line};
 use oracle::wire::Record;
+use tallies::Campaign;
 
 /// A capacity for a trace: just enough, so that buckets are shared, or roomy.
 fn capacity(records: usize, number: u64) -> usize {
@@ -31,14 +35,14 @@ fn capacity(records: usize, number: u64) -> usize {
     [least, (least + 7).min(4096), 96.max(least)][(number % 3) as usize]
 }
 
-/// The oracle against the judge, pushed to and at once.
+/// The oracle against the judge, pushed to and at once: the reports, and the judge pushed to.
 fn both(
     comparer: &mut Comparer,
     tenant: u64,
     records: &[Record],
     asking: Asking,
     room: usize,
-) -> Result<Reports, String> {
+) -> Result<(Reports, Host), String> {
     let mut judge = Host::open(tenant, room);
     let reports = comparer.against(&mut judge, tenant, records, asking)?;
     let bytes: Vec<u8> = records.iter().flat_map(|record| record.encode()).collect();
@@ -51,7 +55,7 @@ fn both(
             return Err(format!("at once: check {} differs", check + 1));
         }
     }
-    Ok(reports)
+    Ok((reports, judge))
 }
 
 /// Prints the smallest trace that still disagrees, and ends the run.
@@ -67,18 +71,44 @@ fn disagree(comparer: &mut Comparer, trace: &Trace, number: u64, first: &str) ->
         println!("{}: {}\n   {}", place + 1, readable(record), record_line(record));
     }
     let room = capacity(least.len(), number);
-    println!("smallest: {:?}", both(comparer, trace.tenant, &least, Asking::EachRecord, room));
+    let found = both(comparer, trace.tenant, &least, Asking::EachRecord, room);
+    println!("smallest: {:?}", found.map(|(reports, _)| reports));
     exit(1)
 }
 
-/// One trace through both, counted. Every fourth is asked after each record.
-fn count(comparer: &mut Comparer, counts: &mut Counts, trace: &Trace, number: u64) {
+/// A row of the table: what its traces came to, and the library's tally of their judges.
+#[derive(Default)]
+struct Row {
+    counts: Counts,
+    campaign: Campaign,
+}
+
+/// One trace through both, counted and entered. Every fourth is asked after each record.
+fn count(comparer: &mut Comparer, row: &mut Row, trace: &Trace, number: u64) {
     let asking = if number % 4 == 0 { Asking::EachRecord } else { Asking::AtTheEnd };
     let room = capacity(trace.records.len(), number);
     match both(comparer, trace.tenant, &trace.records, asking, room) {
-        Ok(reports) => counts.add(trace, &reports),
+        Ok((reports, judge)) => {
+            row.counts.add(trace, &reports);
+            enter(&mut row.campaign, trace, &reports, &judge);
+        }
         Err(words) => disagree(comparer, trace, number, &words),
     }
+}
+
+/// The judge into its row's tally. A difference is not shrunk: the traces before it count too.
+fn enter(campaign: &mut Campaign, trace: &Trace, reports: &Reports, judge: &Host) {
+    if let Err(words) = campaign.enter(judge, reports, trace.records.len() as u64) {
+        println!("tally of {}: {words}\n{reports:?}", trace.profile);
+        exit(1)
+    }
+}
+
+/// The last lines of a table.
+fn end(all: &Counts, comparer: &Comparer) {
+    println!("{}", all.row("all"));
+    println!("\nlook-ups compared: {}", comparer.asked);
+    println!("every judge entered into its row's tally: all bytes as counted");
 }
 
 /// Traces of every profile, each drawn by its number.
@@ -87,16 +117,15 @@ fn profiles(each: u64, draw: impl Fn(&'static str, u64) -> (Trace, u64)) {
     let mut all = Counts::default();
     println!("{}", header());
     for profile in names() {
-        let mut counts = Counts::default();
+        let mut row = Row::default();
         for number in 0..each {
             let (trace, number) = draw(profile, number);
-            count(&mut comparer, &mut counts, &trace, number);
+            count(&mut comparer, &mut row, &trace, number);
         }
-        println!("{}", counts.row(profile));
-        all.join(&counts);
+        println!("{}", row.counts.row(profile));
+        all.join(&row.counts);
     }
-    println!("{}", all.row("all"));
-    println!("\nlook-ups compared: {}", comparer.asked);
+    end(&all, &comparer);
 }
 
 /// All short traces over small alphabets.
@@ -105,17 +134,16 @@ fn exhaustive() {
     let mut all = Counts::default();
     println!("{}", header());
     for alphabet in alphabets() {
-        let mut counts = Counts::default();
+        let mut row = Row::default();
         for number in 0..alphabet.size() {
             let records = alphabet.trace(number);
             let trace = Trace { profile: alphabet.name, tenant: 0, records };
-            count(&mut comparer, &mut counts, &trace, number);
+            count(&mut comparer, &mut row, &trace, number);
         }
-        println!("{}", counts.row(alphabet.name));
-        all.join(&counts);
+        println!("{}", row.counts.row(alphabet.name));
+        all.join(&row.counts);
     }
-    println!("{}", all.row("all"));
-    println!("\nlook-ups compared: {}", comparer.asked);
+    end(&all, &comparer);
 }
 
 /// Every case into a judge that has taken 19 records: where it draws a refusal,
@@ -152,6 +180,7 @@ fn main() {
     match args.first().map(String::as_str) {
         Some("exhaustive") => exhaustive(),
         Some("form") => [19, 20].into_iter().for_each(|room| damaged(room, number(1, 1))),
+        Some("tally") => tallies::compare(number(1, 1_000_000), number(2, 1)),
         // Not multiples of four: look-ups at the end only.
         Some("long") => profiles(number(1, 40), |name, k| (trace(name, k, 200, 512), 4 * k + 1)),
         Some("full") => profiles(number(1, 4), |name, k| (trace(name, k, 1000, 4096), 4 * k + 1)),

@@ -1,0 +1,218 @@
+-- Numbers in bytes, for any width: what is written reads back, what is read is written back, and a number written to its place is
+-- stored there. Assumes nothing.
+use mathlib.Core.Path.{_≡_, refl, sym, ap, _∙_}
+use mathlib.Core.Bool.{Bool, true, false, cond}
+use mathlib.Core.List.{List, [], _∷_, _++_, append-nil}
+use Prim.Native.Nat.{ℕ, zero, suc, _+_, _-_, _*_, _/_, _%_, _^_, _≤_, _<_}
+use native.Mathlib.Omega.{arith}
+use native.Mathlib.Nat.{pow-suc, pow-zero, mul-suc, mul-zero, mul-le-mul-left}
+use native.Mathlib.Decide.{decLt}
+use lib.ListN.{length, set, take, drop, replicate, length-append, length-drop, length-set, drop-of-length-le, replicate-append-replicate}
+use lib.Seq.{sets, sets-eq, set-append-left, take-append-le, drop-append-le, take-at, drop-at, take-all, take-add}
+use lib.Dec.{eqb}
+use borrow.Author.Tests.{eq-eqb, ne-eqb}
+use Rattle.record.specs.Numbers.{part, littleEndian}
+use Rattle.record.proofs.Numbers.{Bytes, littleEndian-nil, littleEndian-cons, length-part, bytes-part, number-below}
+use Rattle.tally.specs.Stored.{bytesOf, stored, numberIn}
+
+-- ---- one number
+
+pub bytes-length : (w n : ℕ) → length (bytesOf w n) ≡ w
+unfolding bytesOf
+bytes-length zero n = refl
+bytes-length (suc w) n = ap suc (bytes-length w (n / 256))
+
+-- what was written reads back
+pub bytes-read : (w n : ℕ) → n < 256 ^ w → littleEndian (bytesOf w n) ≡ n
+unfolding bytesOf
+bytes-read zero n l = let e = pow-zero 256 in littleEndian-nil ∙ omega arith
+bytes-read (suc w) n l =
+    let e = pow-suc 256 w in
+    let q : n / 256 < 256 ^ w = omega arith in
+    littleEndian-cons (n % 256) (bytesOf w (n / 256)) ∙ ap (λ (m : ℕ). n % 256 + 256 * m) (bytes-read w (n / 256) q) ∙ omega arith
+
+-- what was read is written back
+pub read-bytes : (bs : List ℕ) → Bytes bs → bytesOf (length bs) (littleEndian bs) ≡ bs
+unfolding bytesOf
+read-bytes [] p = refl
+read-bytes (b ∷ bs) p =
+    let l : b < 256 = p .below 0 in
+    let c = littleEndian-cons b bs in
+    let x : littleEndian (b ∷ bs) % 256 ≡ b = omega arith in
+    let y : littleEndian (b ∷ bs) / 256 ≡ littleEndian bs = omega arith in
+    ap (λ (k : ℕ). k ∷ bytesOf (length bs) (littleEndian (b ∷ bs) / 256)) x
+    ∙ ap (λ (k : ℕ). b ∷ bytesOf (length bs) k) y
+    ∙ ap (λ (ks : List ℕ). b ∷ ks) (read-bytes bs (record { below = λ i. p .below (suc i) }))
+
+-- writing a number byte by byte: the next byte, then the rest
+pub write-next : (l : List ℕ) (p w i rest : ℕ) → i < w
+    → sets l (p + i) (bytesOf (w - i) rest) ≡ sets (set l (p + i) (rest % 256)) (p + (i + 1)) (bytesOf (w - (i + 1)) (rest / 256))
+unfolding bytesOf
+write-next l p w i rest h =
+    let m : w - i ≡ suc (w - (i + 1)) = omega arith in
+    let n : suc (p + i) ≡ p + (i + 1) = omega arith in
+    ap (λ (k : ℕ). sets l (p + i) (bytesOf k rest)) m
+    ∙ ap (λ (k : ℕ). sets (set l (p + i) (rest % 256)) k (bytesOf (w - (i + 1)) (rest / 256))) n
+
+-- .. and at the end nothing is left
+pub write-end : (l : List ℕ) (p w i rest : ℕ) → w ≤ i → sets l (p + i) (bytesOf (w - i) rest) ≡ l
+unfolding bytesOf
+write-end l p w i rest h =
+    let m : w - i ≡ 0 = omega arith in
+    ap (λ (k : ℕ). sets l (p + i) (bytesOf k rest)) m
+
+-- ---- numbers one after the other
+
+module _ (w : ℕ) where
+  pub stored-length : (f : ℕ → ℕ) (n : ℕ) → length (stored w f n) ≡ w * n
+  unfolding stored
+  stored-length f zero = let z = mul-zero w in omega arith
+  stored-length f (suc n) =
+      let e = length-append (stored w f n) (bytesOf w (f n)) in
+      let i = stored-length f n in
+      let b = bytes-length w (f n) in
+      let m = mul-suc w n in
+      omega arith
+
+  -- the same numbers are stored as the same bytes
+  pub stored-same : (f g : ℕ → ℕ) (n : ℕ) → ((i : ℕ) → i < n → f i ≡ g i) → stored w f n ≡ stored w g n
+  unfolding stored
+  stored-same f g zero h = refl
+  stored-same f g (suc n) h =
+      let i : stored w f n ≡ stored w g n = stored-same f g n (λ i l. h i (omega arith)) in
+      let e : f n ≡ g n = h n (omega arith) in
+      λ k. i k ++ bytesOf w (e k)
+
+  -- a place among n ends before the n-th begins
+  stride : (p n : ℕ) → p < n → w * p + w ≤ w * n
+  stride p n l =
+      let a = mul-suc w p in
+      let b : w * suc p ≤ w * n = mul-le-mul-left w l in
+      omega arith
+
+  -- the bytes of number p
+  part-stored : (f : ℕ → ℕ) (p n : ℕ) → p < n → part (w * p) (w * p + w) (stored w f n) ≡ bytesOf w (f p)
+  unfolding stored
+  part-stored f p zero l = absurd (omega arith)
+  part-stored f p (suc n) l = elim (decLt p n) [
+    | yes h ↦ inside h (part-stored f p n h)
+    | no h ↦ last (omega arith)
+  ]
+    where
+      width : (w * p + w) - w * p ≡ w
+      width = omega arith
+
+      inside : p < n → part (w * p) (w * p + w) (stored w f n) ≡ bytesOf w (f p)
+          → part (w * p) (w * p + w) (stored w f n ++ bytesOf w (f n)) ≡ bytesOf w (f p)
+      inside h before =
+          let s = stride p n h in
+          let e = stored-length f n in
+          let d : length (drop (w * p) (stored w f n)) ≡ length (stored w f n) - w * p = length-drop (w * p) (stored w f n) in
+          ap (take ((w * p + w) - w * p)) (drop-append-le (w * p) (stored w f n) (bytesOf w (f n)) (omega arith))
+          ∙ take-append-le ((w * p + w) - w * p) (drop (w * p) (stored w f n)) (bytesOf w (f n)) (omega arith)
+          ∙ before
+
+      last : p ≡ n → part (w * p) (w * p + w) (stored w f n ++ bytesOf w (f n)) ≡ bytesOf w (f p)
+      last q =
+          let a : length (stored w f n) ≡ w * p = stored-length f n ∙ ap (λ (k : ℕ). w * k) (sym q) in
+          ap (λ (k : ℕ). take k (drop (w * p) (stored w f n ++ bytesOf w (f n)))) width
+          ∙ ap (take w) (drop-at (stored w f n) (bytesOf w (f n)) (w * p) a)
+          ∙ take-all w (bytesOf w (f n)) (let b = bytes-length w (f n) in omega arith)
+          ∙ ap (λ (k : ℕ). bytesOf w (f k)) (sym q)
+
+  -- a number that fits reads back
+  pub number-stored : (f : ℕ → ℕ) (p n : ℕ) → p < n → f p < 256 ^ w → numberIn w (stored w f n) p ≡ f p
+  unfolding numberIn
+  number-stored f p n l h = ap littleEndian (part-stored f p n l) ∙ bytes-read w (f p) h
+
+  pub number-fits : (s : List ℕ) (p : ℕ) → Bytes s → numberIn w s p < 256 ^ w
+  unfolding numberIn
+  number-fits s p b = number-below w (w * p) s b
+
+  -- bytes are those of the numbers that they hold
+  stored-front : (s : List ℕ) (n : ℕ) → Bytes s → w * n ≤ length s → stored w (numberIn w s) n ≡ take (w * n) s
+  unfolding stored numberIn
+  stored-front s zero b h = ap (λ (k : ℕ). take k s) (sym (mul-zero w))
+  stored-front s (suc n) b h =
+      let m = mul-suc w n in
+      let q : part (w * n) (w * n + w) s ≡ take w (drop (w * n) s) =
+      ap (λ (k : ℕ). take k (drop (w * n) s)) (let z : (w * n + w) - w * n ≡ w = omega arith in z) in
+      let l : length (part (w * n) (w * n + w) s) ≡ w = length-part (w * n) (w * n + w) s (omega arith) ∙ omega arith in
+      let c : bytesOf w (littleEndian (part (w * n) (w * n + w) s)) ≡ part (w * n) (w * n + w) s =
+      ap (λ (k : ℕ). bytesOf k (littleEndian (part (w * n) (w * n + w) s))) (sym l)
+      ∙ read-bytes (part (w * n) (w * n + w) s) (bytes-part (w * n) (w * n + w) s b) in
+      ap (λ (t : List ℕ). t ++ bytesOf w (littleEndian (part (w * n) (w * n + w) s))) (stored-front s n b (omega arith))
+      ∙ ap (λ (t : List ℕ). take (w * n) s ++ t) (c ∙ q)
+      ∙ sym (take-add (w * n) w s)
+      ∙ ap (λ (k : ℕ). take k s) (sym m)
+
+  pub stored-back : (s : List ℕ) (n : ℕ) → Bytes s → length s ≡ w * n → stored w (numberIn w s) n ≡ s
+  stored-back s n b e = stored-front s n b (omega arith) ∙ take-all (w * n) s (omega arith)
+
+  -- ---- a number written to its place
+
+  sets-left : (xs ys : List ℕ) (i : ℕ) (vs : List ℕ) → i + length vs ≤ length xs → sets (xs ++ ys) i vs ≡ sets xs i vs ++ ys
+  sets-left xs ys i [] h = refl
+  sets-left xs ys i (v ∷ vs) h =
+      let n = length-set xs i v in
+      ap (λ (l : List ℕ). sets l (suc i) vs) (set-append-left xs ys i v (omega arith)) ∙ sets-left (set xs i v) ys (suc i) vs (omega arith)
+
+  sets-end : (xs ys vs : List ℕ) (i : ℕ) → length xs ≡ i → length ys ≡ length vs → sets (xs ++ ys) i vs ≡ xs ++ vs
+  sets-end xs ys vs i e f =
+      let n = length-append xs ys in
+      let d : drop (i + length vs) (xs ++ ys) ≡ [] = drop-of-length-le (xs ++ ys) {i = i + length vs} (omega arith) in
+      sets-eq vs (xs ++ ys) i (omega arith)
+      ∙ ap (λ (t : List ℕ). t ++ vs ++ drop (i + length vs) (xs ++ ys)) (take-at xs ys i e)
+      ∙ ap (λ (t : List ℕ). xs ++ vs ++ t) d
+      ∙ append-nil (xs ++ vs)
+
+  -- the numbers with m at place p
+  abbrev pub placed : ℕ → ℕ → (ℕ → ℕ) → ℕ → ℕ
+  placed p m f i = cond (eqb i p) m (f i)
+
+  pub write-stored : (f : ℕ → ℕ) (p m n : ℕ) → p < n → sets (stored w f n) (w * p) (bytesOf w m) ≡ stored w (placed p m f) n
+  unfolding stored
+  write-stored f p m zero l = absurd (omega arith)
+  write-stored f p m (suc n) l = elim (decLt p n) [
+    | yes h ↦ inside h (write-stored f p m n h)
+    | no h ↦ last (omega arith)
+  ]
+    where
+      b : length (bytesOf w m) ≡ w
+      b = bytes-length w m
+
+      inside : p < n → sets (stored w f n) (w * p) (bytesOf w m) ≡ stored w (placed p m f) n
+          → sets (stored w f n ++ bytesOf w (f n)) (w * p) (bytesOf w m) ≡ stored w (placed p m f) n ++ bytesOf w (placed p m f n)
+      inside h before =
+          let s = stride p n h in
+          let e = stored-length f n in
+          let a : eqb n p ≡ false = ne-eqb n p (λ q. omega arith) in
+          sets-left (stored w f n) (bytesOf w (f n)) (w * p) (bytesOf w m) (omega (arith, b))
+          ∙ ap (λ (t : List ℕ). t ++ bytesOf w (f n)) before
+          ∙ ap (λ (t : Bool). stored w (placed p m f) n ++ bytesOf w (cond t m (f n))) (sym a)
+
+      last : p ≡ n → sets (stored w f n ++ bytesOf w (f n)) (w * p) (bytesOf w m) ≡ stored w (placed p m f) n ++ bytesOf w (placed p m f n)
+      last q =
+          let e : length (stored w f n) ≡ w * p = stored-length f n ∙ ap (λ (k : ℕ). w * k) (sym q) in
+          let a : eqb n p ≡ true = eq-eqb n p (sym q) in
+          let same : stored w f n ≡ stored w (placed p m f) n =
+          stored-same f (placed p m f) n (λ i h. let z : eqb i p ≡ false = ne-eqb i p (λ x. omega arith) in sym (ap (λ (t : Bool). cond t m (f i)) z)) in
+          sets-end (stored w f n) (bytesOf w (f n)) (bytesOf w m) (w * p) e (bytes-length w (f n) ∙ sym b)
+          ∙ ap (λ (t : List ℕ). t ++ bytesOf w m) same
+          ∙ ap (λ (t : Bool). stored w (placed p m f) n ++ bytesOf w (cond t m (f n))) (sym a)
+
+  -- ---- zeros
+
+  zero-bytes : (v : ℕ) → bytesOf v 0 ≡ replicate v 0
+  unfolding bytesOf
+  zero-bytes zero = refl
+  zero-bytes (suc v) = ap (λ (t : List ℕ). 0 ∷ t) (zero-bytes v)
+
+  pub stored-zeros : (n : ℕ) → stored w (λ i. 0) n ≡ replicate (w * n) 0
+  unfolding stored
+  stored-zeros zero = ap (λ (k : ℕ). replicate k 0) (sym (mul-zero w))
+  stored-zeros (suc n) =
+      ap (λ (t : List ℕ). t ++ bytesOf w 0) (stored-zeros n)
+      ∙ ap (λ (t : List ℕ). replicate (w * n) 0 ++ t) (zero-bytes w)
+      ∙ replicate-append-replicate (w * n) w 0
+      ∙ ap (λ (k : ℕ). replicate k 0) (sym (mul-suc w n))
