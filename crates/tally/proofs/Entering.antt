@@ -7,9 +7,9 @@ use native.Mathlib.Decide.{decLt}
 use native.Mathlib.Omega.{arith}
 use lib.ListN.{length, getD}
 use lib.Dec.{eqb, ltb}
-use borrow.Author.Tests.{ltb-true, eqb-true, not-true, not-false, lt-ltb, le-ltb, eq-eqb, ne-eqb}
+use borrow.Author.Tests.{ltb-true, eqb-true, eqb-false, not-true, not-false, lt-ltb, le-ltb, ne-eqb}
 use Rattle.rules.specs.Checks.{checkCount, checkAt}
-use Rattle.rules.proofs.Booleans.{never, and-left, and-right}
+use Rattle.rules.proofs.Booleans.{and-left, and-right}
 use Rattle.intake.specs.Refusals.{fitsBy}
 use Rattle.judge.specs.declared.state.Judge.{Judge}
 use Rattle.tally.specs.declared.Entered.{Entered}
@@ -110,9 +110,6 @@ module _ (j : Judge) (places : List ℕ) (p : PlacesOf (j .reports) places) wher
 
 -- ---- by numbers: what is refused, and what is entered
 
-zero-not : {n : ℕ} → eqb n 0 ≡ false → n ≡ 0 → ⊥
-zero-not {n} e z = never (eq-eqb n 0 z) e
-
 module _ (bytes places : List ℕ) (count : ℕ) (fit : Bool) where
   -- the first of the three tests
   abbrev pub fits : Bool
@@ -128,7 +125,7 @@ module _ (bytes places : List ℕ) (count : ℕ) (fit : Bool) where
       ap (λ (b : Bool). eqb (length bytes) tallySize && (fit && b)) (sym e) ∙ not-false (eqb (length bytes) tallySize && (fit && known)) t
 
   refused-by : {n : ℕ} → n ≡ refusalBy bytes places count fit → eqb n 0 ≡ false → EntersPlaces bytes places count fit n bytes
-  refused-by e z = record { refusal = e; refused = λ y. refl; taken = λ y. absurd (zero-not z y) }
+  refused-by {n} e z = record { refusal = e; refused = λ y. refl; taken = λ y. absurd (eqb-false n 0 z y) }
 
   pub places-unfit : fits ≡ false → EntersPlaces bytes places count fit 5 bytes
   unfolding refusalBy
@@ -182,7 +179,7 @@ module _ (bytes : List ℕ) (j : Judge) (places : List ℕ) (p : PlacesOf (j .re
   known-none false e =
       let none : (size && (fit && false)) ≡ false = and-false size fit in
       let five : _≡_ {A = ℕ} 5 0 = sym (ap (λ (r : Bool). inOrder r (unusedClear bytes) (roomFor bytes places (j .count))) none) ∙ e in
-      absurd (zero-not {n = 5} refl five)
+      absurd (eqb-false 5 0 refl five)
 
   left-by : {r : ℕ} {bytes′ : List ℕ} → EntersPlaces bytes places (j .count) fit r bytes′ → (b : Bool) → eqb r 0 ≡ b
       → bytes′ ≡ cond b (stored width (raised bytes j) tallyPlaces) bytes
@@ -191,7 +188,7 @@ module _ (bytes : List ℕ) (j : Judge) (places : List ℕ) (p : PlacesOf (j .re
       let z : r ≡ 0 = eqb-true r 0 e in
       let known = known-of places (p .many) (known-none (placesKnown places) (sym (q .refusal) ∙ z)) in
       q .taken z ∙ raised-is j places p known bytes
-  left-by q false e = q .refused (zero-not e)
+  left-by {r} q false e = q .refused (eqb-false r 0 e)
 
   -- the count is that of the judge as it was handed back
   pub enters : {a : Entered} {bytes′ : List ℕ} → a .judge ≡ j

@@ -78,3 +78,11 @@ refusals =
 refused : refusals ≡ 0 ∷ 5 ∷ 5 ∷ 5 ∷ 5 ∷ 5 ∷ 5 ∷ 4 ∷ 0 ∷ 4 ∷ 9 ∷ 0 ∷ 0 ∷ 9 ∷ 0 ∷ []
 unfolding entryRefusal isEntry unusedClear hasRoom allTo countAt usedPlaces howMany recordsTaken judgePlace stored bytesOf numberIn littleEndian
 refused = refl
+
+-- at 5, 4 and 9 the tally is as it stood
+abbrev stays : List ℕ → ℕ → Type 0
+stays bytes kind = leftBy bytes (judged ids kind 2) ≡ bytes
+
+kept : stays zeroTally 10 × stays (with ids 4 1) 3 × stays (with ids 3 4294967295) 3 × stays (with totals 1 4294967294) 3
+unfolding leftBy entryRefusal isEntry unusedClear hasRoom allTo countAt usedPlaces howMany recordsTaken judgePlace stored bytesOf numberIn littleEndian
+kept = (refl, refl, refl, refl)

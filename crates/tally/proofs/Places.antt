@@ -7,13 +7,7 @@ use lib.ListN.{length, getD, set}
 use lib.Seq.{getD-set-same, getD-set-other}
 use borrow.Author.Count.{below-more}
 use Rattle.rules.specs.declared.Report.{Report}
-use Rattle.rules.specs.Reports.{passed}
-use Rattle.rules.specs.Checks.{checkAt}
-use Rattle.tally.specs.Counts.{verdictPlace}
-
--- the place of the verdict of check k
-abbrev pub reportPlace : List Report → ℕ → ℕ
-reportPlace reports k = verdictPlace (checkAt k .kinds) (getD reports k passed .verdict)
+use Rattle.tally.specs.Counts.{reportPlace}
 
 -- the first k are found
 abbrev pub FoundTo : ℕ → List Report → List ℕ → Type 0

@@ -4,6 +4,7 @@ use mathlib.Core.List.{List, [], _∷_}
 use Prim.Native.Nat.{ℕ, _+_, _*_, _/_, _%_}
 use lib.ListN.{length, getD}
 use lib.Dec.{eqb, leb, ltb}
+use Rattle.rules.specs.declared.Report.{Report}
 use Rattle.rules.specs.declared.Verdict.{Verdict}
 use Rattle.rules.specs.declared.Verdict.the-variants.{Pass, Faulted}
 use Rattle.rules.specs.Reports.{passed}
@@ -31,9 +32,12 @@ abbrev pub verdictPlace : ℕ → Verdict → ℕ
 verdictPlace kinds Pass = 0
 verdictPlace kinds (Faulted kind) = cond (leb 1 kind && leb kind kinds) kind placeCount
 
--- where a judge counts in the record of check k
+-- where the report of check k counts in that check's record, and so where a judge does
+abbrev pub reportPlace : List Report → ℕ → ℕ
+reportPlace reports k = verdictPlace (checkAt k .kinds) (getD reports k passed .verdict)
+
 unfoldable pub judgePlace : ℕ → Judge → ℕ
-judgePlace k j = verdictPlace (checkAt k .kinds) (getD (j .reports) k passed .verdict)
+judgePlace k j = reportPlace (j .reports) k
 
 -- how many elements of a list pass a test
 unfoldable pub howMany : {A : Type 0} → (A → Bool) → List A → ℕ

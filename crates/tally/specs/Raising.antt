@@ -6,16 +6,15 @@ use Prim.Native.Nat.{ℕ, _+_, _<_}
 use lib.ListN.{length, getD}
 use lib.Dec.{eqb, ltb}
 use Rattle.rules.specs.declared.Report.{Report}
-use Rattle.rules.specs.Reports.{passed}
-use Rattle.rules.specs.Checks.{checkCount, checkAt}
+use Rattle.rules.specs.Checks.{checkCount}
 use Rattle.tally.specs.Stored.{holds, stored, numberIn, allTo}
-use Rattle.tally.specs.Counts.{placeCount, tallyPlaces, recordOf, placeOf, verdictPlace}
+use Rattle.tally.specs.Counts.{placeCount, tallyPlaces, recordOf, placeOf, reportPlace}
 use Rattle.tally.specs.Entries.{width, tallySize, unusedClear, inOrder}
 
 -- the places of the reports' verdicts, one for each check
 pub record PlacesOf (reports : List Report) (places : List ℕ) : Type 0 where
   pub many : length places ≡ checkCount
-  pub each : (k : ℕ) → k < checkCount → getD places k 0 ≡ verdictPlace (checkAt k .kinds) (getD reports k passed .verdict)
+  pub each : (k : ℕ) → k < checkCount → getD places k 0 ≡ reportPlace reports k
 
 -- each is a place of a record
 unfoldable pub placesKnown : List ℕ → Bool
