@@ -43,9 +43,10 @@
  *     1  a record, or a trace's tail, is not 368 bytes
  *     2  kind not 1 to 12
  *     3  node mark not 0 or 1; sub-code, flag, voter count or span count not one of the kind's values (0 alone where it has
- *        none); a counted span's key length above 31
+ *        none; voters are 0 to 5 in kinds 1, 2 and 12); a counted span's key length above 31
  *     4  a place that the kind does not use is not zero: also the node without its mark, a parent without the flag, bytes 50 to
- *        55, voters and spans past their counts, a key's padding, kind 3's end; or a place that a tally does not use is not zero
+ *        55, voters and spans past their counts, so the last two voter places always, a key's padding, kind 3's end; or a place
+ *        that a tally does not use is not zero
  *     5  state is no judge's: not 59 words, a report's kind above 255, a capacity above 4096, a count above the capacity; or log
  *        is not 368 * capacity bytes, or work not 32 * capacity words; or tally is not 360 bytes, or a report to be counted has a
  *        kind that its check lacks
@@ -95,8 +96,9 @@
 extern "C" {
 #endif
 
-#define PETALCHURN_VERSION 2        /* rises with every change of this interface */
+#define PETALCHURN_VERSION 3        /* rises with every change of this interface */
 #define PETALCHURN_RECORD_SIZE 368  /* bytes of a record */
+#define PETALCHURN_VOTER_LIMIT 5    /* the most voters of a record, which has places for seven */
 #define PETALCHURN_WORK_WORDS 32    /* words of the work area for each record of the capacity */
 #define PETALCHURN_CAPACITY 4096    /* the largest capacity */
 #define PETALCHURN_STATE_WORDS 59   /* words of a judge */

@@ -82,7 +82,7 @@ mod library {
 }
 
 // The macros of the header.
-const VERSION: u64 = 2;
+const VERSION: u64 = 3;
 const RECORD_SIZE: usize = 368;
 const WORK_WORDS: usize = 32;
 const STATE_WORDS: usize = 59;

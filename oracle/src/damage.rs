@@ -120,12 +120,30 @@ pub fn several(random: &mut Random, bases: &[[u8; RECORD]]) -> Case {
         let fields = field_places();
         let place =
             if random.percent(60) { *random.pick(&fields) } else { random.below(368) as usize };
-        bytes[place] = *random.pick(&[0, 1, 2, 3, 4, 5, 7, 8, 12, 13, 31, 32, 33, 128, 255]);
+        bytes[place] = *random.pick(&[0, 1, 2, 3, 4, 5, 6, 7, 8, 12, 13, 31, 32, 33, 128, 255]);
     }
     if random.percent(10) {
         bytes.truncate(random.below(368) as usize);
     }
     Case::new(&bytes)
+}
+
+/// Counts of five, six and seven voters, each byte of the last two places alone
+/// set or none: six and seven draw 3 whatever the places hold, also where byte
+/// 50 would draw 4; five draw 4 unless those places are zero.
+fn voter_places() -> Vec<Case> {
+    let mut out = Vec::new();
+    for kind in [1, 2, 12] {
+        for count in 5..=7 {
+            let mut base = good(kind, true).encode();
+            base[48] = count;
+            out.push(Case::new(&base));
+            out.extend((96..112).map(|place| with(&base, place, 1)));
+            base[50] = 1;
+            out.push(Case::new(&base));
+        }
+    }
+    out
 }
 
 /// All the cases that the comparison runs.
@@ -138,6 +156,7 @@ pub fn every_case(seed: u64) -> Vec<Case> {
         out.extend(fields(base));
         out.extend(places(base, &[0, 1, 2, 31, 32, 128, 255]));
     }
+    out.extend(voter_places());
     out.extend((0..100_000).map(|_| several(&mut random, &bases)));
     out
 }
@@ -156,6 +175,7 @@ pub fn stored_cases(seed: u64) -> Vec<Case> {
         );
     }
     out.extend(unused_places());
+    out.extend(voter_places());
     out.extend((0..200).map(|_| several(&mut random, &bases)));
     out
 }

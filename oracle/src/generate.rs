@@ -118,7 +118,8 @@ impl<'a> Draw<'a> {
         record
     }
 
-    /// An earlier record, often by another node, sometimes with a new number.
+    /// An earlier record, often by another node, sometimes with a new number or
+    /// another last voter.
     fn again(&mut self) -> Record {
         let mut record = self.random.pick(&self.records).clone();
         if record.kind == 11 && self.random.percent(30) {
@@ -127,6 +128,10 @@ impl<'a> Draw<'a> {
             let (span, voters) = self.value(record.numbers[0], record.numbers[3]);
             record.spans = vec![span];
             record.voters = voters;
+        }
+        if !record.voters.is_empty() && self.random.percent(10) {
+            record.voters.pop();
+            record.voters.push(self.node());
         }
         record
     }
@@ -171,7 +176,7 @@ impl<'a> Draw<'a> {
     }
 
     fn voters(&mut self) -> Vec<u64> {
-        let count = *self.random.pick(&[0, 1, 1, 2, 2, 3, 7]);
+        let count = *self.random.pick(&[0, 1, 1, 2, 2, 3, 4, 5]);
         (0..count).map(|_| self.node()).collect()
     }
 

@@ -22,6 +22,7 @@ pub mod model;
 pub mod profiles;
 pub mod random;
 pub mod report;
+pub mod slips;
 pub mod stored;
 pub mod tally;
 pub mod text;

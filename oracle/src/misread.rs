@@ -17,7 +17,7 @@ pub fn smallest(comparer: &mut Comparer, found: &Trace, asking: Asking) -> (Trac
 }
 
 /// Traces tried in each profile, disagreements shrunk in each, and in all.
-const TRIED: u64 = 1500;
+const TRIED: u64 = 3000;
 const SHRUNK: usize = 1;
 const ENOUGH: usize = 5;
 const LONGER: [&str; 3] = ["half", "half-restated", "splits"];

@@ -6,6 +6,8 @@
 pub const RECORD: usize = 368;
 /// The longest key.
 pub const KEY: usize = 31;
+/// The most voters. There are places for seven.
+pub const VOTERS: usize = 5;
 /// Where the spans begin, and the length of one.
 pub const SPANS: usize = 112;
 pub const SPAN: usize = 64;
@@ -43,7 +45,7 @@ const fn form(sub: (u8, u8), spans: (usize, usize), numbers: [bool; 5]) -> Form 
 }
 
 const fn with_voters(form: Form, flag: u8) -> Form {
-    Form { flag, voters: 7, ..form }
+    Form { flag, voters: VOTERS, ..form }
 }
 
 /// The forms of kinds 1 to 12, in order.

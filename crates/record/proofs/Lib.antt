@@ -1,5 +1,5 @@
 -- The laws that proofs here and above cite: numbers made of bytes, keys and their order, the named sub-codes, the decoded
--- record; stretches of zeros, the shapes of kinds, and what a record that draws no refusal has.
+-- record; stretches of zeros, the shapes of kinds, what a record that draws no refusal has, and the voters.
 pub mod Numbers
 pub mod Keys
 pub mod Names
@@ -7,3 +7,4 @@ pub mod Records
 pub mod Shapes
 pub mod Zeros
 pub mod Sound
+pub mod Voters

@@ -32,7 +32,7 @@ pub length-voters : (s : List ℕ) → length (votersIn s) ≡ voterCount s
 unfolding votersIn
 length-voters s = length-numbers votersAt (voterCount s) s
 
--- "seven 64-bit voters"
+-- "at most five"
 pub few-voters : (s : List ℕ) → length (decode s .voters) ≤ voterLimit
 unfolding decode
 few-voters s = omega (arith, length-voters s)

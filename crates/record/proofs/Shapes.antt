@@ -48,7 +48,7 @@ rows p u [] h n = u n
 rows p u (x ∷ xs) h zero = and-left (p 0 x) (rowsPass (λ n. p (suc n)) xs) h
 rows p u (x ∷ xs) h (suc n) = rows (λ m. p (suc m)) (λ m. u (suc m)) xs (and-right (p 0 x) (rowsPass (λ m. p (suc m)) xs) h) n
 
--- no kind has more voters and spans than there is room for
+-- no kind has more voters and spans than the limits
 abbrev roomy : Shaped → Bool
 roomy Unknown = true
 roomy (Known k) = leb (k .voters .high) voterLimit && leb (k .spans .high) spanLimit

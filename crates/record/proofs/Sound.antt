@@ -59,7 +59,7 @@ pub by-shape : (s : List ℕ) → length s ≡ recordSize → (k : Shaped) → s
 unfolding refusalOf
 by-shape s h k e = rw (eq-eqb (length s) recordSize h, e)
 
--- a kind's values leave room for the voters and the spans that are counted
+-- a kind's values keep the counts of voters and spans within the limits
 pub record Counted (s : List ℕ) : Type 0 where
   pub voters : byteAt 48 s ≤ voterLimit
   pub spans : byteAt 49 s ≤ spanLimit

@@ -14,12 +14,12 @@ abbrev pub keyLimit : ℕ
 keyLimit = 31
 
 abbrev pub voterLimit : ℕ
-voterLimit = 7
+voterLimit = 5
 
 abbrev pub spanLimit : ℕ
 spanLimit = 4
 
--- where the seven voters and the four spans begin
+-- where the voters and the four spans begin: there are places for seven voters, and the last two stay zero
 abbrev pub votersAt : ℕ
 votersAt = 56
 

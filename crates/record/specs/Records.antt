@@ -37,7 +37,7 @@ unfoldable pub numbersFrom : ℕ → ℕ → List ℕ → List ℕ
 numbersFrom p zero s = []
 numbersFrom p (suc n) s = number64 p s ∷ numbersFrom (p + 8) n s
 
--- "48 voter count; seven 64-bit voters from 56": the counted ones, and never more than there is room for
+-- "48 voter count; seven 64-bit voters from 56", "at most five": the counted ones, and never more than the limit
 abbrev pub voterCount : List ℕ → ℕ
 voterCount s = min voterLimit (byteAt 48 s)
 

@@ -126,7 +126,7 @@ pub fn e(rec: &[u8]) -> u64
     u64_at(rec, 40)
 }
 
-// How many voters and how many spans there are, never more than there is room for.
+// How many voters and how many spans there are, never more than the limits.
 pub fn voter_count(rec: &[u8]) -> usize
     requires { ⌜ length (now rec) ≡ recordSize ⌝ }
     ensures { λ r. ⌜ (r ≡ length (decode (now (rec .entry)) .voters)) × (r ≤ voterLimit) ⌝ }

@@ -9,7 +9,8 @@ pub const SPAN_SIZE: usize = 2 * KEY_SIZE;
 
 pub const KEY_LIMIT: u8 = 31;
 
-pub const VOTER_LIMIT: u8 = 7;
+// There are places for seven voters; the last two stay zero.
+pub const VOTER_LIMIT: u8 = 5;
 
 pub const SPAN_LIMIT: u8 = 4;
 

@@ -58,9 +58,9 @@ fn both(rec: [u8; 368], span: u8) -> [u8; 368] {
     ends(with(start(rec, span), at, 31), at + 1, at + 31)
 }
 
-// Seven voters.
+// Five voters.
 fn voted(rec: [u8; 368]) -> [u8; 368] {
-    ends(with(rec, 48, 7), 56, 111)
+    ends(with(rec, 48, 5), 56, 95)
 }
 
 // A kind's shortest record: a sub-code and a span where the kind must have one, and all else zero.
@@ -121,10 +121,12 @@ fn flags(kind: u8) {
 }
 
 fn voters(kind: u8) {
-    head(kind, b" voters 0 1 7 8 255:");
+    head(kind, b" voters 0 1 5 6 7 8 255:");
     let rec = bare(kind);
     tell(with(rec, 48, 0));
     tell(with(rec, 48, 1));
+    tell(with(rec, 48, 5));
+    tell(with(rec, 48, 6));
     tell(with(rec, 48, 7));
     tell(with(rec, 48, 8));
     tell(with(rec, 48, 255));
@@ -231,12 +233,23 @@ fn zeros() {
     write(b"\n");
 }
 
+// The last two voter places, with all five voters and with a count that would reach them.
+fn last_places() {
+    let five = with(bare(2), 48, 5);
+    show(b"fifth voter's last byte", with(five, 95, 1));
+    show(b"sixth voter of five, first byte", with(five, 96, 1));
+    show(b"seventh voter of five, last byte", with(five, 111, 1));
+    show(b"sixth voter of six", with(with(five, 48, 6), 96, 1));
+    show(b"seventh voter of seven", with(with(five, 48, 7), 111, 1));
+}
+
 // Voters and spans at and past their counts.
 fn past_counts() {
     let two = with(bare(2), 48, 2);
     show(b"second voter's last byte", with(two, 71, 1));
     show(b"third voter of two, first byte", with(two, 72, 1));
     show(b"seventh voter of two, last byte", with(two, 111, 1));
+    last_places();
     show(b"voter of none", with(bare(5), 56, 1));
     show(b"second span of one, first byte", with(bare(2), 176, 1));
     show(b"fourth span of one, last byte", with(bare(2), 367, 1));

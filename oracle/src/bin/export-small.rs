@@ -2,7 +2,8 @@
 //!
 //!   export-small [TRACES [SEED [LEAST_PER_KIND]]]
 //!   export-small told    document 01's examples, then for each other reading of
-//!                        it the smallest trace that speaks against that reading
+//!                        it the smallest trace that speaks against that reading,
+//!                        then the traces of slips.txt
 //!
 //! Nine tenths are drawn in turn from all profiles, unselected; then traces are
 //! added until every check's every kind was reached often enough. For each:
@@ -22,6 +23,7 @@ use oracle::misread::against;
 use oracle::model::readings::READINGS;
 use oracle::random::Random;
 use oracle::report::KINDS;
+use oracle::slips::slips;
 use oracle::text::{answer_line, record_line, reports_line};
 
 /// How often each kind of each check was exported.
@@ -75,7 +77,8 @@ fn told() {
     let mut comparer = Comparer::default();
     let misread = READINGS.iter().filter_map(|(reading, _)| against(&mut comparer, *reading));
     let examples = examples().into_iter().map(|example| example.trace);
-    for (number, trace) in examples.chain(misread.map(|(trace, _)| trace)).enumerate() {
+    let found = misread.map(|(trace, _)| trace).chain(slips());
+    for (number, trace) in examples.chain(found).enumerate() {
         print(number as u64 + 1, &trace);
     }
 }

@@ -17,6 +17,7 @@ use oracle::model::judge::Judge;
 use oracle::model::readings::{READINGS, take};
 use oracle::random::Random;
 use oracle::report::{CHECKS, KINDS};
+use oracle::slips::slips;
 use oracle::stored::{check_form, check_traces};
 use oracle::vectors::{sample, trace_bytes};
 use oracle::wire::Record;
@@ -37,7 +38,8 @@ fn write_traces(dir: &Path) {
     let mut comparer = Comparer::default();
     let misread = READINGS.iter().filter_map(|(reading, _)| against(&mut comparer, *reading));
     let told = examples().into_iter().map(|example| example.trace);
-    let traces: Vec<_> = told.chain(misread.map(|(trace, _)| trace)).chain(drawn).collect();
+    let found = misread.map(|(trace, _)| trace).chain(slips());
+    let traces: Vec<_> = told.chain(found).chain(drawn).collect();
     let mut random = Random::new(SEED);
     let bytes: Vec<u8> = traces.iter().flat_map(|t| trace_bytes(t, &mut random)).collect();
     std::fs::write(dir.join("traces.bin"), bytes).expect("traces.bin");

@@ -49,6 +49,12 @@ fn server(past: &[Entry], node: u64) -> u64 {
     told.map_or(node, |x| x.c)
 }
 
+/// Whether the server is among a split's voters.
+fn is_voter(voters: &[u64], server: u64) -> bool {
+    let looked_at = if takes(Reading::FifthIsNoVoter) { 4 } else { voters.len() };
+    voters.iter().take(looked_at).any(|voter| *voter == server)
+}
+
 /// "RaftRefused drops debts, applied splits, the recorded indexes and what was
 /// held at the latest RangesRestated; both it and a crash drop the pending split;
 /// only a crash drops the restated mark."
@@ -174,7 +180,7 @@ impl Columns {
     fn debt(past: &[Entry], node: u64, split: &Split) -> Option<Debt> {
         let Split { parent, index, right, ref voters } = *split;
         let late = takes(Reading::ServerOfTheLatestRecord);
-        let voter = late || voters.contains(&server(past, node));
+        let voter = late || is_voter(voters, server(past, node));
         voter.then_some(Debt { node, right, parent, index })
     }
 
@@ -223,7 +229,7 @@ impl Columns {
         let late = takes(Reading::ServerOfTheLatestRecord);
         let voter = |d: &&Debt| {
             let split = self.find(d.parent, d.index).expect("a registered split");
-            !late || split.voters.contains(&server(past, node))
+            !late || is_voter(&split.voters, server(past, node))
         };
         let mut owed = standing.iter().filter(voter);
         if takes(Reading::GreatestIndexDebt) {

@@ -63,6 +63,8 @@ pub enum Reading {
     MetaStartIgnored,
     MetaEndIgnored,
     MetaVotersIgnored,
+    FifthVoterIgnored,
+    FifthIsNoVoter,
     /// A crash drops what it leaves, or leaves what it drops.
     Crash(Thing),
     /// RaftRefused likewise.
@@ -84,7 +86,7 @@ use Reading::*;
 use Thing::*;
 
 /// All of them, each with the words of document 01 that it reads otherwise.
-pub const READINGS: [(Reading, &str); 67] = [
+pub const READINGS: [(Reading, &str); 69] = [
     (LowestIndexAtGeneration, "`first_at_generation` the lowest index with that generation"),
     (
         CrashForgetsApplied,
@@ -167,6 +169,8 @@ pub const READINGS: [(Reading, &str); 67] = [
     (MetaStartIgnored, "start, end or voters differ from it: without the start"),
     (MetaEndIgnored, "start, end or voters differ from it: without the end"),
     (MetaVotersIgnored, "start, end or voters differ from it: without the voters"),
+    (FifthVoterIgnored, "voters compare as lists: without the fifth"),
+    (FifthIsNoVoter, "its server at that moment is a voter: one of the first four"),
     (Crash(RestatedMark), "a crash drops the restated mark: it does not"),
     (Crash(Pending), "both drop the pending split: a crash does not"),
     (Crash(Applied), "RaftRefused drops applied splits: a crash too"),

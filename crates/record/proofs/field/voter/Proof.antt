@@ -1,4 +1,4 @@
--- The voter is the number at its place, which is below the seventh.
+-- The voter is the number at its place, which is below the sixth.
 use mathlib.Core.Path.{sym, _∙_}
 use native.Mathlib.Omega.{arith}
 use Rattle.record.specs.Records.{decode}
