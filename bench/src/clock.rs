@@ -1,4 +1,5 @@
-//! Processor time of this thread: other work on the machine does not count.
+//! Processor time of this thread, so that other work on the machine does not count, and the
+//! median of many rounds.
 
 #[repr(C)]
 struct Time {
@@ -18,4 +19,10 @@ pub fn now() -> u64 {
     let answer = unsafe { clock_gettime(THREAD_CPUTIME, &mut time) };
     assert_eq!(answer, 0, "no clock of processor time");
     time.seconds as u64 * 1_000_000_000 + time.nanoseconds as u64
+}
+
+/// The median of what the rounds took.
+pub fn median(mut times: Vec<f64>) -> f64 {
+    times.sort_by(f64::total_cmp);
+    times[times.len() / 2]
 }

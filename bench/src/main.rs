@@ -7,6 +7,8 @@ mod hard;
 mod sides;
 mod story;
 mod tally;
+#[cfg(values)]
+mod values;
 mod worst;
 
 use std::hint::black_box;
@@ -209,4 +211,6 @@ fn main() {
     if size.is_none_or(|size| size == tally::RECORDS) {
         tally::print(&words, rounds);
     }
+    #[cfg(values)]
+    values::print(&words, rounds);
 }

@@ -159,10 +159,7 @@ fn measure(judges: &[Judge], rounds: usize) -> [f64; 2] {
         times[0].push(round(library, judges));
         times[1].push(round(plain, judges));
     }
-    times.map(|mut times| {
-        times.sort_by(f64::total_cmp);
-        times[times.len() / 2]
-    })
+    times.map(clock::median)
 }
 
 /// The rows whose names have one of the words: the judges of the well-behaved stories and of

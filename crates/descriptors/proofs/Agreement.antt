@@ -4,7 +4,7 @@ use mathlib.Core.Path.{_≡_, refl, sym, ap, _∙_}
 use mathlib.Core.Bool.{Bool, true, false, cond, not, _&&_, _||_}
 use mathlib.Core.List.{List, [], _∷_}
 use mathlib.Core.Option.{Option, none, some}
-use mathlib.Core.Logic.{_⊎_, ⊎-elim}
+use mathlib.Core.Logic.{⊎-elim}
 use Prim.Native.Nat.{ℕ, _≤_, _<_}
 use native.Mathlib.Omega.{arith}
 use native.Mathlib.Decide.{decLt}
@@ -18,8 +18,8 @@ use Rattle.rules.specs.History.{History, holds, isSome, anyOf, latestOf, earlie
 use Rattle.rules.specs.Cases.{isFault, fault, faultIf, orCase, caseOf, earliestCase}
 use Rattle.rules.specs.Descriptors.{heldBy, Entry, Role, puts, states, neither, roleOf, entryAt, putBy, statedBy, samePlace, standing, stated, atIn, heldEqb, putFault, putsDiffer, aheadFault, differsFault, statementFault, agreement}
 use Rattle.descriptors.specs.Agreement.{touches, agreementPut, agreementRole, agreementAt, nextIn, lastIn, aheadIn, fallsBehind, goesAgainst, newFaulty}
-use Rattle.descriptors.proofs.Same.{held-same}
 use Rattle.rules.proofs.Booleans.{and-left, and-right}
+use Rattle.rules.proofs.Same.{held-same}
 use Rattle.descriptors.proofs.Lists.{clear-left, clear-right, or-clear, those-enough, earliest-agree, earliest-passes, earliest-fault, found-clear, any-latest, In, here, any-in, greatest-above, lowest-below, greatest-is, lowest-is}
 
 -- what one more record changes

@@ -2,5 +2,4 @@
 pub mod Index
 pub mod Answers
 pub mod Noted
-pub mod Same
 pub mod Agreement

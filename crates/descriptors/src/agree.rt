@@ -1,5 +1,4 @@
 // Agreement: the case of a new record, where there was none before. Only what the record touches is judged.
-use crate::held::same_held;
 use crate::role::Role;
 use crate::role::role_of;
 use crate::value::first_of;
@@ -9,6 +8,7 @@ use crate::value::lowest;
 use crate::value::standing_at;
 use history::bucket::bucket_by;
 use history::chain::link;
+use history::held::same_held;
 use history::log::record_at;
 use record::field::a;
 use record::field::b;

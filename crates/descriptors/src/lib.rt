@@ -1,7 +1,6 @@
 // `Descriptors`: the values of ranges and their look-ups, and agreement. Every function is safe and ends whatever the log
 // and the work area hold; what it says of the history holds where the columns are what the history says.
 pub mod agree;
-pub mod held;
 pub mod index;
 pub mod role;
 pub mod value;

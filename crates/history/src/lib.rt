@@ -2,5 +2,6 @@
 // the log and the work area hold; what it says of the history holds where the work area is what the history says.
 pub mod bucket;
 pub mod chain;
+pub mod held;
 pub mod log;
 pub mod span;

@@ -1,13 +1,13 @@
 -- The number that `first_at_generation` finds is that of a record taken, whose value is the one found.
 use mathlib.Core.Path.{_≡_, refl, sym, ap, _∙_}
-use mathlib.Core.Bool.{Bool}
+use mathlib.Core.Bool.{Bool, not}
 use mathlib.Core.List.{List, [], _∷_}
 use mathlib.Core.Option.{Option, none, some}
 use Prim.Native.Nat.{ℕ, zero, suc, _<_}
 use native.Mathlib.Omega.{arith}
 use Rattle.record.specs.Records.{TraceRecord, decode}
 use Rattle.rules.specs.Cases.{fault, faultIf}
-use Rattle.rules.specs.Descriptors.{Held, Entry, Role, puts, states, neither, heldBy, roleOf, putBy, tellsPut, standing, samePlace, firstAtGeneration}
+use Rattle.rules.specs.Descriptors.{Held, Entry, Role, puts, states, neither, heldBy, roleOf, putBy, tellsPut, standing, samePlace, namedEqb, firstAtGeneration}
 use Rattle.rules.specs.History.{History, numberAfter}
 use Rattle.rules.specs.MetaNeverGoesBack.{differsFrom, namedFault}
 use Rattle.rules.specs.declared.Case.{Case}
@@ -17,6 +17,7 @@ use Rattle.rules.proofs.Booleans.{none-some}
 use Rattle.rules.proofs.Firsts.{ToldBy, now, before, told-by, firsts-told}
 use Rattle.rules.proofs.LookUps.{Looked, Soonest, Having, firstAtGeneration-right}
 use Rattle.rules.proofs.Members.{Mem}
+use Rattle.rules.proofs.Same.{named-differs}
 use Rattle.history.specs.Logs.{bytesAt, recordAt, hist}
 use Rattle.history.proofs.Logs.{hist-length}
 use Rattle.descriptors.specs.Answers.{foundBy}
@@ -71,8 +72,8 @@ standing-at log n m = told-at log n (told-by tellsPut (hist log n) (firsts-told 
 pub found-at : (range generation : ℕ) (log : List ℕ) (n : ℕ) (v : Entry) → firstAtGeneration range generation (hist log n) ≡ some v → PutAt log n v
 found-at range generation log n v e = by-found (firstAtGeneration range generation (hist log n)) e (firstAtGeneration-right range generation (hist log n))
   where
-    by-found : (o : Option Entry) → o ≡ some v → Looked (Having range generation) (Soonest (Having range generation) (standing (hist log n))) (standing (hist log n)) o
-        → PutAt log n v
+    by-found : (o : Option Entry) → o ≡ some v
+        → Looked (Having range generation) (Soonest (Having range generation) (standing (hist log n))) (standing (hist log n)) o → PutAt log n v
     by-found none q w = none-some q
     by-found (some u) q w = let z : u ≡ v = cc in rw (sym z) (standing-at log n (w .mem))
 
@@ -80,19 +81,24 @@ found-at range generation log n v e = by-found (firstAtGeneration range generati
 
 module _ (x : TraceRecord) (log : List ℕ) where
   -- it differs as the record at its place does
-  differs-at : {k j : ℕ} {old : List ℕ} {d : Bool} → old ≡ bytesAt j log → j ≡ k → d ≡ differsFrom x (heldBy (decode old)) → d ≡ differsFrom x (heldBy (recordAt log k))
+  differs-at : {k j : ℕ} {old : List ℕ} {same : Bool} → old ≡ bytesAt j log → j ≡ k → same ≡ namedEqb (heldBy (decode old)) (heldBy x)
+      → not same ≡ differsFrom x (heldBy (recordAt log k))
   unfolding recordAt
-  differs-at p q e = e ∙ ap (λ (s : List ℕ). differsFrom x (heldBy (decode s))) (p ∙ ap (λ (i : ℕ). bytesAt i log) q)
+  differs-at {old} p q e =
+      ap not e
+      ∙ named-differs x (heldBy (decode old))
+      ∙ ap (λ (s : List ℕ). differsFrom x (heldBy (decode s))) (p ∙ ap (λ (i : ℕ). bytesAt i log) q)
 
   -- kind 2, where it does
   abbrev by-test : Bool → Case
   by-test d = faultIf d (fault 2 (x .a ∷ x .d ∷ x .b ∷ []))
 
-  pub case-at : {j : ℕ} {old : List ℕ} {d : Bool} {r : Case} (k : ℕ) → old ≡ bytesAt j log → j ≡ k → d ≡ differsFrom x (heldBy (decode old)) → r ≡ by-test d
-      → r ≡ by-test (differsFrom x (heldBy (recordAt log k)))
+  pub case-at : {j : ℕ} {old : List ℕ} {same : Bool} {r : Case} (k : ℕ) → old ≡ bytesAt j log → j ≡ k
+      → same ≡ namedEqb (heldBy (decode old)) (heldBy x) → r ≡ by-test (not same) → r ≡ by-test (differsFrom x (heldBy (recordAt log k)))
   case-at k p q e t = t ∙ ap by-test (differs-at p q e)
 
-  module _ (n : ℕ) {f : Found} {range generation : ℕ} (a : range ≡ x .a) (d : generation ≡ x .d) (g : f ≡ foundBy (firstAtGeneration range generation (hist log n))) where
+  module _ (n : ℕ) {f : Found} {range generation : ℕ} (a : range ≡ x .a) (d : generation ≡ x .d)
+      (g : f ≡ foundBy (firstAtGeneration range generation (hist log n))) where
     e : f ≡ foundBy (firstAtGeneration (x .a) (x .d) (hist log n))
     e = g ∙ ap (λ (m : ℕ). foundBy (firstAtGeneration m generation (hist log n))) a ∙ ap (λ (m : ℕ). foundBy (firstAtGeneration (x .a) m (hist log n))) d
 

@@ -1,13 +1,10 @@
 // The descriptor that a record names: kinds 1 and 2.
 use crate::fault::descriptor_fault;
 use descriptors::value::first_at_generation;
+use history::held::same_named;
 use history::log::record_at;
-use history::span::end_of;
-use history::span::start_of;
 use record::field::a;
 use record::field::d;
-use record::key::same_key;
-use record::key::same_voters;
 use rules::Case;
 use rules::Found;
 ghost use mathlib.Core.Path.{_≡_};
@@ -22,16 +19,6 @@ ghost use Rattle.history.specs.Bounds.{Bounds};
 ghost use Rattle.history.specs.Logs.{recordAt, hist};
 ghost use Rattle.descriptors.specs.Index.{DescriptorsIndexed};
 
-// Whether start, end or voters differ from those of an earlier record.
-fn differs(old: &[u8], rec: &[u8]) -> bool
-    requires { ⌜ (length (now old) ≡ 368) × (length (now rec) ≡ 368) ⌝ }
-    ensures { λ r. ⌜ r ≡ differsFrom (decode (now (rec .entry))) (heldBy (decode (now (old .entry)))) ⌝ }
-{
-    !same_key(start_of(old, 0), start_of(rec, 0))
-        | !same_key(end_of(old, 0), end_of(rec, 0))
-        | !same_voters(old, rec)
-}
-
 // The case of a record by the one that put its descriptor, given by its number: one of those taken, so nothing is said of
 // any other number.
 fn named_by(log: &[u8], count: usize, number: u64, rec: &[u8]) -> Case
@@ -45,10 +32,10 @@ fn named_by(log: &[u8], count: usize, number: u64, rec: &[u8]) -> Case
         return Case::Clear;
     }
     let k = (number - 1) as usize;
-    if differs(record_at(log, k), rec) {
-        return descriptor_fault(2, rec);
+    if same_named(record_at(log, k), rec) {
+        return Case::Clear;
     }
-    Case::Clear
+    descriptor_fault(2, rec)
 }
 
 // The case of a record's descriptor: its range has none of that generation, or one that differs.

@@ -10,7 +10,7 @@ use lib.Dec.{eqb, leb, ltb}
 use lib.ListN.{length, getD, take, drop, length-take, length-drop, drop-of-length-le}
 use lib.Seq.{take-all, ext-getD}
 use borrow.Author.Count.{below-none, below-more}
-use borrow.Author.Tests.{lt-ltb, le-ltb, le-leb, lt-leb, eq-eqb, eqb-true}
+use borrow.Author.Tests.{lt-ltb, le-ltb, le-leb, lt-leb, eq-eqb, eqb-true, eqb-false}
 use Rattle.record.specs.Limits.{keySize, keyLimit}
 use Rattle.record.specs.Numbers.{number64}
 use Rattle.record.specs.Keys.{Key, keyIn, keyLtb, listEqb, Lt, Le}
@@ -116,6 +116,39 @@ module _ {xs ys : List ℕ} {n i : ℕ} (f : Alike xs ys n i) where
       | no h ↦ number-same 8 i k xs ys p q (omega (arith, f .shorter)) (omega (arith, f .shorter)) e (omega arith) m
     ];
   }
+
+-- two places hold the same bytes where their four words are the same
+module _ (xs ys : List ℕ) (l : length xs ≡ keySize) (m : length ys ≡ keySize) where
+  abbrev words : ℕ → Bool
+  words p = eqb (number64 p xs) (number64 p ys)
+
+  word-differs : (p : ℕ) → words p ≡ false → listEqb xs ys ≡ false
+  word-differs p e = listEqb-differ xs ys (λ q. eqb-false (number64 p xs) (number64 p ys) e (ap (number64 p) q))
+
+  words-same : Bytes xs → Bytes ys → words 0 ≡ true → words 8 ≡ true → words 16 ≡ true → words 24 ≡ true → listEqb xs ys ≡ true
+  words-same b c e f g h =
+      let start = alike-start xs ys 32 (omega (arith, l, m)) in
+      let one = alike-word start b c (omega arith) (eqb-true _ _ e) in
+      let two = alike-word one b c (omega arith) (eqb-true _ _ f) in
+      let three = alike-word two b c (omega arith) (eqb-true _ _ g) in
+      let all = alike-word three b c (omega arith) (eqb-true _ _ h) in
+      equal-all xs ys 32 (l ∙ sym m) (omega (arith, l)) (all .same)
+
+  pub places-same : Bytes xs → Bytes ys → words 0 && words 8 && words 16 && words 24 ≡ listEqb xs ys
+  places-same b c = go (words 0) (words 8) (words 16) (words 24) (words-same b c) (word-differs 0) (word-differs 8) (word-differs 16) (word-differs 24)
+    where
+      go : (p q r s : Bool) → (p ≡ true → q ≡ true → r ≡ true → s ≡ true → listEqb xs ys ≡ true)
+          → (p ≡ false → listEqb xs ys ≡ false) → (q ≡ false → listEqb xs ys ≡ false) → (r ≡ false → listEqb xs ys ≡ false)
+          → (s ≡ false → listEqb xs ys ≡ false) → p && q && r && s ≡ listEqb xs ys
+      go true true true true t e f g h = sym (t refl refl refl refl)
+      go true true true false t e f g h = sym (h refl)
+      go true true false s t e f g h = sym (g refl)
+      go true false r s t e f g h = sym (f refl)
+      go false q r s t e f g h = sym (e refl)
+
+-- and then the same key
+pub places-key : (xs ys : List ℕ) (whole : Bool) → whole && listEqb xs ys ≡ true → listEqb (keyIn xs) (keyIn ys) ≡ true
+places-key xs ys whole e = listEqb-equal _ _ (ap keyIn (listEqb-same xs ys (both whole (listEqb xs ys) e .1)))
 
 -- ---- the order of keys
 

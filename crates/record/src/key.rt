@@ -1,14 +1,17 @@
 // Keys and voters compared where they lie. The key reader and the key comparisons are handed a key's place, the
 // stretch `&record[a..b]` of 32 bytes: a length byte, then the key's bytes, zero-padded.
 use crate::field::voter_count;
+use crate::limits::KEY_SIZE;
 use crate::limits::VOTERS_AT;
 use crate::number::index;
 use crate::number::u64_at;
 ghost use mathlib.Core.Path.{_≡_};
+ghost use mathlib.Core.Bool.{_&&_};
 ghost use Prim.Native.Nat.{ℕ, _<_, _≤_};
+ghost use lib.Dec.{eqb};
 ghost use lib.ListN.{length, getD};
 ghost use Rattle.record.specs.Keys.{keyIn, keyLtb, keyEqb, listEqb};
-ghost use Rattle.record.specs.Limits.{recordSize};
+ghost use Rattle.record.specs.Limits.{recordSize, keySize};
 ghost use Rattle.record.specs.Records.{votersIn};
 
 // The key in a place, as a part of it: as many bytes as the length byte says, and no more than there are.
@@ -81,11 +84,32 @@ pub fn key_less(a: &[u8], b: &[u8]) -> bool
     bytes_less(key(a), key(b))
 }
 
-// Whether the keys in two places are the same.
+// Whether two lists are whole places that hold the same bytes: four words each, and no branch on what they hold.
+fn same_place(a: &[u8], b: &[u8]) -> bool
+    ensures { λ r. ⌜ r ≡ eqb (length (now (a .entry))) keySize && eqb (length (now (b .entry))) keySize && listEqb (now (a .entry)) (now (b .entry)) ⌝ }
+{
+    if a.len() != KEY_SIZE {
+        return false;
+    }
+    if b.len() != KEY_SIZE {
+        return false;
+    }
+    (u64_at(a, 0) == u64_at(b, 0))
+        & (u64_at(a, 8) == u64_at(b, 8))
+        & (u64_at(a, 16) == u64_at(b, 16))
+        & (u64_at(a, 24) == u64_at(b, 24))
+}
+
+// Whether the keys in two places are the same. Places that hold the same have the same key, and that is soon seen; keys being
+// padded with zeros, the rest is for keys that differ.
 pub fn same_key(a: &[u8], b: &[u8]) -> bool
     ensures { λ r. ⌜ r ≡ keyEqb (keyIn (now (a .entry))) (keyIn (now (b .entry))) ⌝ }
 {
-    bytes_same(key(a), key(b))
+    if same_place(a, b) {
+        true
+    } else {
+        bytes_same(key(a), key(b))
+    }
 }
 
 // Whether two records have the same voters in the same order.

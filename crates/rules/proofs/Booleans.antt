@@ -2,7 +2,7 @@
 use mathlib.Core.Path.{_≡_, refl, sym, ap, _∙_}
 use mathlib.Core.Bool.{Bool, true, false, true≢false, _&&_, _||_}
 use mathlib.Core.Option.{none, some}
-use mathlib.Core.Logic.{_⊎_, inl, inr}
+use mathlib.Core.Logic.{_⊎_, inl, inr, _↔_}
 use Prim.Native.Nat.{ℕ}
 use borrow.Author.Tests.{eqb-true, ne-eqb}
 use Rattle.record.specs.Records.{TraceRecord}
@@ -36,6 +36,10 @@ or-left a b e = rw e
 pub or-right : (a b : Bool) → b ≡ true → (a || b) ≡ true
 or-right true b e = refl
 or-right false b e = e
+
+-- an answer that is a test means what the test means
+pub means : {A : Type 0} {r b : Bool} → r ≡ b → ((b ≡ true) ↔ A) → (r ≡ b) × ((r ≡ true) ↔ A)
+means e m = (e, (λ t. m .0 (sym e ∙ t), λ a. e ∙ m .1 a))
 
 -- a record has one kind
 pub kind-apart : (j k : ℕ) (x : TraceRecord) → (j ≡ k → ⊥) → isKind j x ≡ true → isKind k x ≡ false

@@ -18,6 +18,7 @@ pub mod Checks
 pub mod CaseKinds
 pub mod Concerns
 -- descriptors
+pub mod Same
 pub mod Standing
 pub mod LookUps
 -- ids

@@ -1,4 +1,5 @@
 -- `Descriptors`: the values of ranges, their look-ups, and agreement.
+use mathlib.Core.Path.{_≡_}
 use mathlib.Core.Bool.{Bool, true, false, cond, not, _&&_, _||_}
 use mathlib.Core.List.{List, [], _∷_}
 use mathlib.Core.Option.{Option, none, some}
@@ -48,6 +49,24 @@ heldEqb v w =
     && eqb (v .generation) (w .generation)
     && listEqb (v .voters) (w .voters)
     && eqb (stateNumber (v .state)) (stateNumber (w .state))
+
+-- which they are "exactly when start, end, generation, voters and state all are" (proofs/Same)
+pub record Same (v w : Held) : Type 0 where
+  pub start : v .start ≡ w .start
+  pub end : v .end ≡ w .end
+  pub generation : v .generation ≡ w .generation
+  pub voters : v .voters ≡ w .voters
+  pub state : v .state ≡ w .state
+
+-- the parts that a MetaApplied names are the same: it is held against a value of its generation, and has no state
+abbrev pub namedEqb : Held → Held → Bool
+namedEqb v w = keyEqb (v .start) (w .start) && keyEqb (v .end) (w .end) && listEqb (v .voters) (w .voters)
+
+-- which they are exactly when start, end and voters all are
+pub record SameNamed (v w : Held) : Type 0 where
+  pub start : v .start ≡ w .start
+  pub end : v .end ≡ w .end
+  pub voters : v .voters ≡ w .voters
 
 -- "The applied index of (node, range) is that of the latest marked kind 1 (floor), 3 (index) or 4 (applied)"
 abbrev pub tellsApplied : ℕ → ℕ → TraceRecord → History → Option ℕ

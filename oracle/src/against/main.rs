@@ -3,6 +3,7 @@
 //!   against [TRACES_PER_PROFILE [SEED]]   numbered traces of every profile
 //!   against long [TRACES_PER_PROFILE]     the same with 200 to 512 records
 //!   against full [TRACES_PER_PROFILE]     the same with 1,000 to 4,096 records
+//!   against tails [TRACES_PER_PROFILE]    numbered traces whose keys differ at their ends alone
 //!   against exhaustive                    all short traces over small alphabets
 //!   against form [SEED]                   damaged records: the refusal, and nothing moved
 //!   against tally [ENTRIES [SEED]]        a campaign, and entries of every sort into a tally
@@ -128,6 +129,22 @@ fn profiles(each: u64, draw: impl Fn(&'static str, u64) -> (Trace, u64)) {
     end(&all, &comparer);
 }
 
+/// The same trace with its short keys behind a common beginning: in their places of 32 bytes they
+/// differ in the length and in the last eight alone. A RaftApply's end stays empty.
+fn tails(mut trace: Trace) -> Trace {
+    for record in &mut trace.records {
+        let ends = record.kind != 3;
+        for (start, end) in &mut record.spans {
+            for key in [Some(start), ends.then_some(end)].into_iter().flatten() {
+                if key.len() <= 8 {
+                    key.splice(0..0, [b'm'; 23]);
+                }
+            }
+        }
+    }
+    trace
+}
+
 /// All short traces over small alphabets.
 fn exhaustive() {
     let mut comparer = Comparer::default();
@@ -181,6 +198,7 @@ fn main() {
         Some("exhaustive") => exhaustive(),
         Some("form") => [19, 20].into_iter().for_each(|room| damaged(room, number(1, 1))),
         Some("tally") => tallies::compare(number(1, 1_000_000), number(2, 1)),
+        Some("tails") => profiles(number(1, 4_000), |name, k| (tails(numbered(name, 1, k)), k)),
         // Not multiples of four: look-ups at the end only.
         Some("long") => profiles(number(1, 40), |name, k| (trace(name, k, 200, 512), 4 * k + 1)),
         Some("full") => profiles(number(1, 4), |name, k| (trace(name, k, 1000, 4096), 4 * k + 1)),

@@ -17,7 +17,10 @@ same-held-requires : tie.Need-same-held-requires
 same-held-requires c κs = search needs
 
 returns-2 : tie.Need-returns-2
-returns-2 c = λ k. rw (sym (c .before .before .before .stands-up-to .ensures) ∙ c .before .before .if1 .left, sym (c .before .same-held .ensures) ∙ c .if2 .taken)
+returns-2 c =
+    let if1 = c .before .before in
+    let above = sym (if1 .before .stands-up-to .ensures) ∙ if1 .if1 .left in
+    λ k. rw (above, sym (c .before .same-held .ensures .0) ∙ c .if2 .taken)
 
 d-requires : tie.Need-d-requires
 d-requires c κs = search needs
@@ -26,13 +29,32 @@ d-requires-2 : tie.Need-d-requires-2
 d-requires-2 c κs = search needs
 
 returns-3 : tie.Need-returns-3
-returns-3 c = let a = c .before .before .before .before .before .before .before .before .before .before .before .args in λ k. rw (sym (c .before .before .before .before .before .before .stands-up-to .ensures) ∙ c .before .before .before .before .before .if1 .left, sym (c .before .before .before .before .same-held .ensures) ∙ c .before .before .before .if2 .left, le-ltb (decode (a .rec .now) .d) (decode (a .s .now) .d) (omega (arith, c .before .before .d .ensures, c .before .d2 .ensures, c .if3 .taken)))
+returns-3 c =
+    let if2 = c .before .before .before in
+    let if1 = if2 .before .before in
+    let args = if1 .before .before .before .before .before .before .args in
+    let above = sym (if1 .before .stands-up-to .ensures) ∙ if1 .if1 .left in
+    let other = sym (if2 .before .same-held .ensures .0) ∙ if2 .if2 .left in
+    let put = decode (args .rec .now) in
+    let stated = decode (args .s .now) in
+    let order = le-ltb (put .d) (stated .d) (omega (arith, c .before .before .d .ensures, c .before .d2 .ensures, c .if3 .taken)) in
+    λ k. rw (above, other, order)
 
 is-taken-above-requires : tie.Need-is-taken-above-requires
 is-taken-above-requires c κs = search needs
 
 returns-4 : tie.Need-returns-4
-returns-4 c = let a = c .before .before .before .before .before .before .before .before .before .before .before .before .args in λ k. rw (sym (c .before .before .before .before .before .before .before .stands-up-to .ensures) ∙ c .before .before .before .before .before .before .if1 .left, sym (c .before .before .before .before .before .same-held .ensures) ∙ c .before .before .before .before .if2 .left, lt-ltb (decode (a .rec .now) .d) (decode (a .s .now) .d) (omega (arith, c .before .before .before .d .ensures, c .before .before .d2 .ensures, c .before .if3 .left))) (c .is-taken-above .ensures k)
+returns-4 c =
+    let if3 = c .before in
+    let if2 = if3 .before .before .before in
+    let if1 = if2 .before .before in
+    let args = if1 .before .before .before .before .before .before .args in
+    let above = sym (if1 .before .stands-up-to .ensures) ∙ if1 .if1 .left in
+    let other = sym (if2 .before .same-held .ensures .0) ∙ if2 .if2 .left in
+    let put = decode (args .rec .now) in
+    let stated = decode (args .s .now) in
+    let order = lt-ltb (put .d) (stated .d) (omega (arith, if3 .before .before .d .ensures, if3 .before .d2 .ensures, if3 .if3 .left)) in
+    λ k. rw (above, other, order) (c .is-taken-above .ensures k)
 
 pub goes-against-spec : {M : Type 1} → statement M
 goes-against-spec =

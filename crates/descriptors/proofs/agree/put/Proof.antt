@@ -1,5 +1,6 @@
 -- Against the value that stands at the place, where one does; else it is a new value.
-use Prim.Native.Nat.{_-_}
+use Prim.Native.Nat.{_+_, _*_, _-_, _≤_}
+use lib.ListN.{length}
 use mathlib.Core.Path.{sym, _∙_}
 use native.Mathlib.Omega.{arith}
 use borrow.Author.Needs.{needs}
@@ -21,7 +22,16 @@ put-new-requires : tie.Need-put-new-requires
 put-new-requires c κs = search needs
 
 returns : tie.Need-returns
-returns c = let a = c .before .before .before .before .before .before .before .args in λ k role clear. c .put-new .ensures k role (place-free (a .log .now) (c .before .before .standing-at .result) (decode (a .rec .now)) (hist (a .log .now) (a .count)) (a .index) (place-is (decode (a .rec .now)) (hist (a .log .now) (a .count)) (a .index) (standing (hist (a .log .now) (a .count))) (c .before .before .before .a .ensures) (c .before .before .standing-at .ensures .1 k)) (c .before .if1 .taken)) clear
+returns c =
+    let if1 = c .before in
+    let found = if1 .before in
+    let args = found .before .before .before .before .before .args in
+    let log = args .log .now in
+    let x = decode (args .rec .now) in
+    let h = hist log (args .count) in
+    λ k role clear.
+    let place = place-is x h (args .index) (standing h) (found .before .a .ensures) (found .standing-at .ensures .1 k) in
+    c .put-new .ensures k role (place-free log (found .standing-at .result) x h (args .index) place (if1 .if1 .taken)) clear
 
 sub-record-at : tie.Need-sub-record-at
 sub-record-at c = search needs
@@ -30,10 +40,26 @@ record-at-requires : tie.Need-record-at-requires
 record-at-requires c κs = search needs
 
 same-held-requires : tie.Need-same-held-requires
-same-held-requires c κs = let p = c .before .before .before .before .before .before .before .pre in (record-length (c .before .before .before .before .before .before .before .args .log .now) (c .before .before .standing-at .result - 1) (c .record-at .ensures) (omega (arith, p .0, c .before .before .standing-at .ensures .0, c .before .if1 .left)), p .1)
+same-held-requires c κs =
+    let found = c .before .before in
+    let entry = found .before .before .before .before .before in
+    let log = entry .args .log .now in
+    let place = found .standing-at .result - 1 in
+    let within : 368 * place + 368 ≤ length log = omega (arith, entry .pre .0, found .standing-at .ensures .0, c .before .if1 .left) in
+    (record-length log place (c .record-at .ensures) within, entry .pre .1)
 
 returns-2 : tie.Need-returns-2
-returns-2 c = let a = c .before .before .before .before .before .before .before .before .before .args in λ k role clear. put-same (a .log .now) (c .before .before .before .before .standing-at .result) (decode (a .rec .now)) (hist (a .log .now) (a .count)) (a .index) (place-is (decode (a .rec .now)) (hist (a .log .now) (a .count)) (a .index) (standing (hist (a .log .now) (a .count))) (c .before .before .before .before .before .a .ensures) (c .before .before .before .before .standing-at .ensures .1 k)) role clear (c .before .before .before .if1 .left) (c .before .before .record-at .ensures) (sym (c .before .same-held .ensures) ∙ c .if2 .taken)
+returns-2 c =
+    let if1 = c .before .before .before in
+    let found = if1 .before in
+    let args = found .before .before .before .before .before .args in
+    let log = args .log .now in
+    let x = decode (args .rec .now) in
+    let h = hist log (args .count) in
+    let same = sym (c .before .same-held .ensures .0) ∙ c .if2 .taken in
+    λ k role clear.
+    let place = place-is x h (args .index) (standing h) (found .before .a .ensures) (found .standing-at .ensures .1 k) in
+    put-same log (found .standing-at .result) x h (args .index) place role clear (if1 .if1 .left) (c .before .before .record-at .ensures) same
 
 a-requires-2 : tie.Need-a-requires-2
 a-requires-2 c κs = search needs
@@ -42,7 +68,19 @@ fault-requires : tie.Need-fault-requires
 fault-requires c κs = search needs
 
 returns-3 : tie.Need-returns-3
-returns-3 c = let a = c .before .before .before .before .before .before .before .before .before .before .before .args in λ k role clear. put-differs (a .log .now) (c .before .before .before .before .before .before .standing-at .result) (decode (a .rec .now)) (hist (a .log .now) (a .count)) (a .index) (place-is (decode (a .rec .now)) (hist (a .log .now) (a .count)) (a .index) (standing (hist (a .log .now) (a .count))) (c .before .before .before .before .before .before .before .a .ensures) (c .before .before .before .before .before .before .standing-at .ensures .1 k)) role clear (c .before .before .before .before .before .if1 .left) (c .before .before .before .before .record-at .ensures) (sym (c .before .before .before .same-held .ensures) ∙ c .before .before .if2 .left) (c .before .a2 .ensures) (c .fault .ensures)
+returns-3 c =
+    let if2 = c .before .before in
+    let if1 = if2 .before .before .before in
+    let found = if1 .before in
+    let args = found .before .before .before .before .before .args in
+    let log = args .log .now in
+    let x = decode (args .rec .now) in
+    let h = hist log (args .count) in
+    let bytes = if2 .before .before .record-at .ensures in
+    let other = sym (if2 .before .same-held .ensures .0) ∙ if2 .if2 .left in
+    λ k role clear.
+    let place = place-is x h (args .index) (standing h) (found .before .a .ensures) (found .standing-at .ensures .1 k) in
+    put-differs log (found .standing-at .result) x h (args .index) place role clear (if1 .if1 .left) bytes other (c .before .a2 .ensures) (c .fault .ensures)
 
 pub put-spec : {M : Type 1} → statement M
 put-spec =

@@ -19,17 +19,24 @@ sub-k c = search needs
 record-at-requires : tie.Need-record-at-requires
 record-at-requires c κs = search needs
 
-differs-requires : tie.Need-differs-requires
-differs-requires c κs = (record-length _ _ (c .record-at .ensures) (omega arith), c .before .before .before .before .before .pre .1 .1)
+same-named-requires : tie.Need-same-named-requires
+same-named-requires c κs = (record-length _ _ (c .record-at .ensures) (omega arith), c .before .before .before .before .before .pre .1 .1)
+
+returns-3 : tie.Need-returns-3
+returns-3 c =
+    let old = c .before .before in
+    let x = decode (old .before .before .before .before .before .args .rec .now) in
+    λ k e l. case-at x _ k (old .record-at .ensures) (omega arith) (c .before .same-named .ensures .0) (rw (c .if3 .taken))
 
 descriptor-fault-requires : tie.Need-descriptor-fault-requires
 descriptor-fault-requires c κs = search needs
 
-returns-3 : tie.Need-returns-3
-returns-3 c = λ k e l. case-at (decode (c .before .before .before .before .before .before .before .before .args .rec .now)) _ k (c .before .before .before .record-at .ensures) (omega arith) (c .before .before .differs .ensures) (rw (c .before .if3 .taken) (c .descriptor-fault .ensures))
-
 returns-4 : tie.Need-returns-4
-returns-4 c = λ k e l. case-at (decode (c .before .before .before .before .before .before .before .args .rec .now)) _ k (c .before .before .record-at .ensures) (omega arith) (c .before .differs .ensures) (rw (c .if3 .left))
+returns-4 c =
+    let if3 = c .before in
+    let old = if3 .before .before in
+    let x = decode (old .before .before .before .before .before .args .rec .now) in
+    λ k e l. case-at x _ k (old .record-at .ensures) (omega arith) (if3 .before .same-named .ensures .0) (rw (if3 .if3 .left) (c .descriptor-fault .ensures))
 
 pub named-by-spec : {M : Type 1} → statement M
 named-by-spec =
@@ -39,7 +46,7 @@ named-by-spec =
     returns-2
     sub-k
     record-at-requires
-    differs-requires
-    descriptor-fault-requires
+    same-named-requires
     returns-3
+    descriptor-fault-requires
     returns-4)
