@@ -1,6 +1,6 @@
 -- Bytes at their places, and numbers made of bytes.
 use mathlib.Core.List.{List, [], _∷_}
-use Prim.Native.Nat.{ℕ, _+_, _-_, _*_}
+use Prim.Native.Nat.{ℕ, zero, suc, _+_, _-_, _*_, _/_, _%_}
 use lib.ListN.{length, getD, take, drop}
 
 -- "the stretch of the record that begins at its offset": the bytes from a up to e, as the code's `&s[a..e]` has them
@@ -15,6 +15,11 @@ byteAt p s = getD s p 0
 unfoldable pub littleEndian : List ℕ → ℕ
 littleEndian [] = 0
 littleEndian (b ∷ bs) = b + 256 * littleEndian bs
+
+-- the way back: a number in w bytes; one that they cannot hold loses what is above them
+unfoldable pub bytesOf : ℕ → ℕ → List ℕ
+bytesOf zero n = []
+bytesOf (suc w) n = n % 256 ∷ bytesOf w (n / 256)
 
 -- "big-endian": the last byte counts least; n is the number of the bytes before
 unfoldable pub bigEndianFrom : ℕ → List ℕ → ℕ

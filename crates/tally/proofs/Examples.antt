@@ -4,12 +4,12 @@ use mathlib.Core.List.{List, [], _∷_}
 use Prim.Native.Nat.{ℕ, zero, suc, _+_, _*_, _-_}
 use lib.ListN.{set, replicate}
 use lib.Seq.{sets}
-use Rattle.record.specs.Numbers.{littleEndian}
+use Rattle.record.specs.Numbers.{littleEndian, bytesOf}
 use Rattle.rules.specs.Cases.{evidence}
 use Rattle.rules.specs.Reports.{passed, faulted}
 use Rattle.rules.specs.Checks.{checkCount}
 use Rattle.judge.specs.declared.state.Judge.{Judge}
-use Rattle.tally.specs.Stored.{bytesOf, stored, numberIn, allTo}
+use Rattle.tally.specs.Stored.{stored, numberIn, allTo}
 use Rattle.tally.specs.Counts.{placeCount, judgePlace, howMany, recordsTaken, usedPlaces, countAt}
 use Rattle.tally.specs.Entries.{width, isEntry, unusedClear, hasRoom, entryRefusal, leftBy}
 use Rattle.tally.specs.Campaigns.{zeroTally}

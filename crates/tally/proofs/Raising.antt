@@ -10,8 +10,9 @@ use lib.Seq.{sets}
 use lib.Dec.{eqb, leb, ltb}
 use borrow.Author.Tests.{ltb-true, leb-true, lt-ltb, le-ltb, le-leb, eq-eqb, ne-eqb}
 use Rattle.record.proofs.Numbers.{Bytes}
+use Rattle.record.specs.Numbers.{bytesOf}
 use Rattle.rules.specs.Checks.{checkCount}
-use Rattle.tally.specs.Stored.{bytesOf, holds, stored, numberIn, allTo}
+use Rattle.tally.specs.Stored.{holds, stored, numberIn, allTo}
 use Rattle.tally.specs.Counts.{placeCount, tallyPlaces, recordOf, placeOf}
 use Rattle.tally.specs.Entries.{width, tallySize}
 use Rattle.tally.specs.Raising.{Known, raiseAt, raisedTo, talliedTo, roomTo, roomFor}

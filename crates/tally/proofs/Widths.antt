@@ -1,65 +1,20 @@
--- Numbers in bytes, for any width: what is written reads back, what is read is written back, and a number written to its place is
+-- Numbers stored one after the other, for any width: they read back, what is read is stored back, and a number written to its place is
 -- stored there. Assumes nothing.
 use mathlib.Core.Path.{_≡_, refl, sym, ap, _∙_}
 use mathlib.Core.Bool.{Bool, true, false, cond}
 use mathlib.Core.List.{List, [], _∷_, _++_, append-nil}
-use Prim.Native.Nat.{ℕ, zero, suc, _+_, _-_, _*_, _/_, _%_, _^_, _≤_, _<_}
+use Prim.Native.Nat.{ℕ, zero, suc, _+_, _-_, _*_, _^_, _≤_, _<_}
 use native.Mathlib.Omega.{arith}
-use native.Mathlib.Nat.{pow-suc, pow-zero, mul-suc, mul-zero, mul-le-mul-left}
+use native.Mathlib.Nat.{mul-suc, mul-zero, mul-le-mul-left}
 use native.Mathlib.Decide.{decLt}
 use lib.ListN.{length, set, take, drop, replicate, length-append, length-drop, length-set, drop-of-length-le, replicate-append-replicate}
 use lib.Seq.{sets, sets-eq, set-append-left, take-append-le, drop-append-le, take-at, drop-at, take-all, take-add}
 use lib.Dec.{eqb}
 use borrow.Author.Tests.{eq-eqb, ne-eqb}
-use Rattle.record.specs.Numbers.{part, littleEndian}
-use Rattle.record.proofs.Numbers.{Bytes, littleEndian-nil, littleEndian-cons, length-part, bytes-part, number-below}
-use Rattle.tally.specs.Stored.{bytesOf, stored, numberIn}
-
--- ---- one number
-
-pub bytes-length : (w n : ℕ) → length (bytesOf w n) ≡ w
-unfolding bytesOf
-bytes-length zero n = refl
-bytes-length (suc w) n = ap suc (bytes-length w (n / 256))
-
--- what was written reads back
-pub bytes-read : (w n : ℕ) → n < 256 ^ w → littleEndian (bytesOf w n) ≡ n
-unfolding bytesOf
-bytes-read zero n l = let e = pow-zero 256 in littleEndian-nil ∙ omega arith
-bytes-read (suc w) n l =
-    let e = pow-suc 256 w in
-    let q : n / 256 < 256 ^ w = omega arith in
-    littleEndian-cons (n % 256) (bytesOf w (n / 256)) ∙ ap (λ (m : ℕ). n % 256 + 256 * m) (bytes-read w (n / 256) q) ∙ omega arith
-
--- what was read is written back
-pub read-bytes : (bs : List ℕ) → Bytes bs → bytesOf (length bs) (littleEndian bs) ≡ bs
-unfolding bytesOf
-read-bytes [] p = refl
-read-bytes (b ∷ bs) p =
-    let l : b < 256 = p .below 0 in
-    let c = littleEndian-cons b bs in
-    let x : littleEndian (b ∷ bs) % 256 ≡ b = omega arith in
-    let y : littleEndian (b ∷ bs) / 256 ≡ littleEndian bs = omega arith in
-    ap (λ (k : ℕ). k ∷ bytesOf (length bs) (littleEndian (b ∷ bs) / 256)) x
-    ∙ ap (λ (k : ℕ). b ∷ bytesOf (length bs) k) y
-    ∙ ap (λ (ks : List ℕ). b ∷ ks) (read-bytes bs (record { below = λ i. p .below (suc i) }))
-
--- writing a number byte by byte: the next byte, then the rest
-pub write-next : (l : List ℕ) (p w i rest : ℕ) → i < w
-    → sets l (p + i) (bytesOf (w - i) rest) ≡ sets (set l (p + i) (rest % 256)) (p + (i + 1)) (bytesOf (w - (i + 1)) (rest / 256))
-unfolding bytesOf
-write-next l p w i rest h =
-    let m : w - i ≡ suc (w - (i + 1)) = omega arith in
-    let n : suc (p + i) ≡ p + (i + 1) = omega arith in
-    ap (λ (k : ℕ). sets l (p + i) (bytesOf k rest)) m
-    ∙ ap (λ (k : ℕ). sets (set l (p + i) (rest % 256)) k (bytesOf (w - (i + 1)) (rest / 256))) n
-
--- .. and at the end nothing is left
-pub write-end : (l : List ℕ) (p w i rest : ℕ) → w ≤ i → sets l (p + i) (bytesOf (w - i) rest) ≡ l
-unfolding bytesOf
-write-end l p w i rest h =
-    let m : w - i ≡ 0 = omega arith in
-    ap (λ (k : ℕ). sets l (p + i) (bytesOf k rest)) m
+use Rattle.record.specs.Numbers.{part, littleEndian, bytesOf}
+use Rattle.record.proofs.Numbers.{Bytes, length-part, bytes-part, number-below}
+use Rattle.record.proofs.Written.{bytes-length, bytes-read, read-bytes, zero-bytes}
+use Rattle.tally.specs.Stored.{stored, numberIn}
 
 -- ---- numbers one after the other
 
@@ -202,11 +157,6 @@ module _ (w : ℕ) where
           ∙ ap (λ (t : Bool). stored w (placed p m f) n ++ bytesOf w (cond t m (f n))) (sym a)
 
   -- ---- zeros
-
-  zero-bytes : (v : ℕ) → bytesOf v 0 ≡ replicate v 0
-  unfolding bytesOf
-  zero-bytes zero = refl
-  zero-bytes (suc v) = ap (λ (t : List ℕ). 0 ∷ t) (zero-bytes v)
 
   pub stored-zeros : (n : ℕ) → stored w (λ i. 0) n ≡ replicate (w * n) 0
   unfolding stored

@@ -1,14 +1,9 @@
 -- Numbers stored in bytes one after the other, each in the same width, little-endian. Every definition is over the width.
 use mathlib.Core.Bool.{Bool, true, _&&_, _||_}
-use mathlib.Core.List.{List, [], _∷_, _++_}
-use Prim.Native.Nat.{ℕ, zero, suc, _+_, _*_, _/_, _%_, _^_}
+use mathlib.Core.List.{List, [], _++_}
+use Prim.Native.Nat.{ℕ, zero, suc, _+_, _*_, _^_}
 use lib.Dec.{eqb, ltb}
-use Rattle.record.specs.Numbers.{part, littleEndian}
-
--- a number in w bytes, "little-endian"; one that they cannot hold loses what is above them
-unfoldable pub bytesOf : ℕ → ℕ → List ℕ
-bytesOf zero n = []
-bytesOf (suc w) n = n % 256 ∷ bytesOf w (n / 256)
+use Rattle.record.specs.Numbers.{part, littleEndian, bytesOf}
 
 -- w bytes hold the number
 abbrev pub holds : ℕ → ℕ → Bool

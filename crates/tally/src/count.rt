@@ -1,10 +1,12 @@
 // A count where it lies: read, and written, by its place in the tally. Here alone the code has its width.
 use record::number::u32_at;
+use record::number::write_number;
 ghost use mathlib.Core.Path.{_≡_};
 ghost use Prim.Native.Nat.{_+_, _*_, _^_, _≤_, _<_};
 ghost use lib.ListN.{length};
 ghost use lib.Seq.{sets};
-ghost use Rattle.tally.specs.Stored.{bytesOf, numberIn};
+ghost use Rattle.record.specs.Numbers.{bytesOf};
+ghost use Rattle.tally.specs.Stored.{numberIn};
 ghost use Rattle.tally.specs.Entries.{width};
 
 // The bytes of a count, and the most that they hold.
@@ -25,11 +27,5 @@ pub(crate) fn write_count(tally: &mut [u8], at: usize, count: u64)
     requires { ⌜ width * at + width ≤ length (now tally) ⌝ }
     ensures { λ _. ⌜ now (tally .exit) ≡ sets (now (tally .entry)) (width * at) (bytesOf width count) ⌝ }
 {
-    let mut rest = count;
-    let mut i = 0usize;
-    while i < WIDTH {
-        tally[WIDTH * at + i] = (rest % 256) as u8;
-        rest /= 256;
-        i += 1;
-    }
+    write_number(tally, WIDTH * at, WIDTH, count);
 }

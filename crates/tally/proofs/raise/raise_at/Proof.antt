@@ -2,7 +2,7 @@
 use mathlib.Core.Path.{ap, _∙_}
 use Prim.Native.Nat.{ℕ, _+_, _*_}
 use lib.Seq.{sets}
-use Rattle.tally.specs.Stored.{bytesOf}
+use Rattle.record.specs.Numbers.{bytesOf}
 use Rattle.tally.specs.Entries.{width}
 use borrow.Author.Needs.{needs}
 use Rattle.tally.proofs.raise.raise_at.Statement.{statement}
