@@ -3,9 +3,10 @@ use mathlib.Core.Path.{_≡_, refl, sym, ap, _∙_}
 use mathlib.Core.List.{List, [], _∷_}
 use Prim.Native.Nat.{ℕ, zero, suc, _+_, _-_, _*_, _≤_, _<_}
 use native.Mathlib.Omega.{arith}
+use native.Mathlib.Decide.{decLt}
 use native.Mathlib.Numerals.{add-one}
 use lib.ListN.{length, getD, drop, length-take, length-drop}
-use lib.Seq.{getD-take, getD-drop, ext-getD}
+use lib.Seq.{take-all, getD-take, getD-drop, ext-getD}
 use Rattle.record.specs.Records.{decode}
 use Rattle.history.specs.Logs.{bytesAt, recordAt, hist, Appended}
 
@@ -83,3 +84,25 @@ module _ {log log′ bytes : List ℕ} {n : ℕ} (a : Appended log log′ n byte
 
   pub appended-hist : hist log′ (n + 1) ≡ decode bytes ∷ hist log n
   appended-hist = hist-more log′ n ∙ rw (appended-record, appended-below n (omega arith))
+
+  -- a log of one record is that record's bytes
+  pub appended-whole : n ≡ 0 → length log ≡ 368 → log′ ≡ bytes
+  unfolding bytesAt
+  appended-whole z e =
+      let l : length log′ ≤ 368 = omega (arith, a .len) in
+      sym (take-all 368 log′ l) ∙ sym (ap (λ (k : ℕ). bytesAt k log′) z) ∙ a .here
+
+-- every byte has a rule: what an append leaves is one log
+pub appended-one : {log a b bytes : List ℕ} {n : ℕ} → Appended log a n bytes → Appended log b n bytes → a ≡ b
+appended-one {log} {a} {b} {bytes} {n} p q = ext-getD 0 a b (p .len ∙ sym (q .len)) (λ j l. elim (decLt j (368 * n)) [
+  | yes m ↦ p .others j (λ x y. omega arith) ∙ sym (q .others j (λ x y. omega arith))
+  | no m ↦ elim (decLt j (368 * n + 368)) [
+    | yes k ↦
+        let i : 368 * n + (j - 368 * n) ≡ j = omega arith in
+        let u : j - 368 * n < 368 = omega arith in
+        let here : (c : List ℕ) → getD (bytesAt n c) (j - 368 * n) 0 ≡ getD c j 0 =
+        λ c. bytes-at c n (j - 368 * n) u ∙ ap (λ (x : ℕ). getD c x 0) i in
+        sym (here a) ∙ ap (λ (c : List ℕ). getD c (j - 368 * n) 0) (p .here ∙ sym (q .here)) ∙ here b
+    | no k ↦ p .others j (λ x y. omega arith) ∙ sym (q .others j (λ x y. omega arith))
+  ]
+])

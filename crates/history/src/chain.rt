@@ -32,7 +32,7 @@ pub fn put(work: &mut [u64], at: usize, v: u64)
     work[at] = v;
 }
 
-// Zeroes the work area.
+// Zeroes words: the work area, or the reports of a judge that is none.
 pub fn clear(work: &mut [u64])
     ensures { λ _. ⌜ now (work .exit) ≡ replicate (length (now (work .entry))) 0 ⌝ }
 {

@@ -158,3 +158,13 @@ pub push-few : (cap count logs words : ℕ) (bytes : List ℕ) → pushRefusalBy
 push-few cap count logs words bytes =
     few-by (suitsBy cap count logs words) (orFull (refusalOf bytes) cap count)
     (full-few (refusalOf bytes) (eqb count cap) (eqb (refusalOf bytes) 0) (form-few bytes))
+
+-- ---- 5 is of the judge and its lengths alone
+
+full-sound : (form : ℕ) (full b : Bool) → form ≤ 4 → cond b (cond full 6 0) form ≡ 5 → ⊥
+full-sound form true true l e = omega arith
+full-sound form false true l e = omega arith
+full-sound form full false l e = omega arith
+
+pub after-sound : (bytes : List ℕ) (cap count : ℕ) → orFull (refusalOf bytes) cap count ≡ 5 → ⊥
+after-sound bytes cap count = full-sound (refusalOf bytes) (eqb count cap) (eqb (refusalOf bytes) 0) (form-few bytes)

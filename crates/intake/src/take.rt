@@ -1,9 +1,6 @@
 // One record, taken or refused.
-use crate::decide::REFUSED;
-use crate::decide::decide;
-use crate::judge::judge;
-use crate::note::note;
-use history::log::append;
+use crate::keep::keep;
+use crate::preview::preview;
 ghost use mathlib.Core.Path.{_≡_};
 ghost use lib.ListN.{length};
 ghost use Rattle.rows.specs.Rows.{rowsSize};
@@ -22,12 +19,10 @@ pub fn take(
     requires { ⌜ length (now rows) ≡ rowsSize ⌝ }
     ensures { λ r. ⌜ TakesIn (record { tenant = tenant }) cap n (now (log .entry)) (now (work .entry)) (now (rows .entry)) (now (rec .entry)) r (now (log .exit)) (now (work .exit)) (now (rows .exit)) ⌝ }
 {
-    let decided = decide(log.len(), work.len(), n, cap, rec);
-    if REFUSED <= decided {
-        return decided - REFUSED;
+    let refusal = preview(log, work, rows, n, cap, tenant, rec);
+    if refusal != 0 {
+        return refusal;
     }
-    judge(log, work, rows, n, cap, tenant, rec, decided);
-    note(log, work, n, cap, rec);
-    append(log, n, rec);
+    keep(log, work, n, cap, rec);
     0
 }
