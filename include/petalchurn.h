@@ -1,7 +1,8 @@
 /* Petalchurn, a judge of recorded traces: the interface for C, and for any language that can call C.
  *
  * A trace is a run of records of 368 bytes each. A judge takes them one at a time and reports, for eight checks, the first fault
- * or a pass. The judges of many traces are entered into a tally, which counts them. docs/MANUAL.md says what a record holds and
+ * or a pass. A record can be previewed before it is taken, and then committed by the ticket that the preview gave. The judges of
+ * many traces are entered into a tally, which counts them. docs/MANUAL.md says what a record holds and
  * what each check means. Every function of the library is proved against its contract (crates/petalchurn/specs); none has a
  * condition on the values that it is given.
  *
@@ -18,28 +19,34 @@
  *   C is the capacity, the most records that the judge takes: 1 to 4096.
  *   A tally belongs to no judge: PETALCHURN_TALLY_SIZE bytes, which count the judges of a campaign of traces. It starts as zeros.
  *   Its bytes do not depend on the machine: it may be stored in a file as it is, and read back to be raised further.
- *   A buffer is passed as a pointer and a length: bytes for log, rec, trace and tally, words of 64 bits for the others. A pointer
+ *   A ticket is PETALCHURN_TICKET_SIZE bytes that a preview writes and a commit takes: the count of the records that the judge had
+ *   taken, in eight bytes, little-endian, then the record. Its bytes do not depend on the machine either. A host may keep it, lose
+ *   it, or make one of its own: a commit tests everything anew.
+ *   A buffer is passed as a pointer and a length: bytes for log, rec, ticket, trace and tally, words of 64 bits for the others. A pointer
  *   is not null, also where the length is 0, and is aligned for its elements; a buffer that a call writes overlaps no other of
  *   that call.
- *   If state, log and work do not come from one run of calls, every call is still safe. A push then still gives the refusals of
- *   the table, and one that takes its record still counts it, copies it to its place and changes no other byte of the log; a
+ *   If state, log and work do not come from one run of calls, every call is still safe. A push, a commit and a preview then still
+ *   give the refusals of the table; a push or commit that takes its record still counts it, copies it to its place and changes no
+ *   other byte of the log; a refused preview still shows what is said below, and any preview still gives the ticket that is; a
  *   report still is what stands in state, and so is what an entry counts; a look-up is still refused by 5 where the table says so
  *   and else by 8 alone, which only petalchurn_holders_of and petalchurn_blocks give. Nothing is promised of the reports and words
- *   that such a push writes, nor of what a look-up that is not refused answers. A refused push, report, look-up or entry still
- *   leaves every buffer as it was.
+ *   that such a push or commit writes, nor of the reports that a preview shows of a record that would be taken, nor of what a look-up
+ *   that is not refused answers. A refused push, commit, report, look-up or entry still leaves every buffer as it was.
  *
  * At the same time
  *   A call touches no memory but the buffers that it is given and its stack, and takes no lock. Two calls may run at the same
  *   time unless one of them writes a buffer that the other is given too. So on one judge
- *     petalchurn_report and the look-ups, which only read its three buffers, may run together, each with an out of its own;
+ *     petalchurn_report, the look-ups and petalchurn_preview, which only read its three buffers, may run together, each with lists of
+ *     its own to write;
  *     petalchurn_tally_enter, which only reads state, may run beside those, each with a tally of its own;
- *     petalchurn_push writes all three and needs them alone; petalchurn_open and petalchurn_trace need alone what they are given.
+ *     petalchurn_push and petalchurn_commit write all three and need them alone; petalchurn_open and petalchurn_trace need alone
+ *     what they are given.
  *   Calls on different judges are independent; they may read one record or one trace together. But each entry writes its tally:
  *   entries into one tally come one after the other, whichever judges they are of.
  *
  * Refusals
  *   A refused call returns a number from this table, else 0; a look-up has it in its answer. A refused call leaves every buffer
- *   as it was, except where petalchurn_open and petalchurn_trace say otherwise.
+ *   as it was, except where petalchurn_open, petalchurn_trace and petalchurn_preview say otherwise.
  *     1  a record, or a trace's tail, is not 368 bytes
  *     2  kind not 1 to 12
  *     3  node mark not 0 or 1; sub-code, flag, voter count or span count not one of the kind's values (0 alone where it has
@@ -54,8 +61,10 @@
  *     7  for no capacity from 1 to 4096 is log 368 * C bytes and work 32 * C words
  *     8  the list for the answer is too short (for petalchurn_open: state is not 59 words)
  *     9  a count of a tally that is to be raised would pass 4294967295
- *   A push tests 5, 1, 2, 3, 4, 6 in that order. petalchurn_report and the look-ups test 5, then 8. petalchurn_open and
- *   petalchurn_trace test 8, then 7; petalchurn_trace then pushes. petalchurn_tally_enter tests 5, 4, 9.
+ *     10 a ticket's count is not the judge's, or the ticket has fewer than eight bytes and so no count
+ *   A push tests 5, 1, 2, 3, 4, 6 in that order, a preview 8 and then the same, a commit 5, 10, 1, 2, 3, 4, 6. petalchurn_report and
+ *   the look-ups test 5, then 8. petalchurn_open and petalchurn_trace test 8, then 7; petalchurn_trace then pushes.
+ *   petalchurn_tally_enter tests 5, 4, 9.
  *
  * A report is seven words: its kind, the number of the record that it arose at (from 1), and five evidence numbers, missing ones
  * 0. A pass is seven zeros. The eight reports, numbered in printing order:
@@ -82,6 +91,12 @@
  *     petalchurn_report(state, PETALCHURN_STATE_WORDS, 7, report, PETALCHURN_REPORT_WORDS);
  *     if (report[0] != 0)
  *         printf("ids: fault %" PRIu64 " at record %" PRIu64 "\n", report[0], report[1]);
+ * or, to show an operator what a record would do before it is taken, with uint64_t reports[8 * PETALCHURN_REPORT_WORDS] and
+ * uint8_t ticket[PETALCHURN_TICKET_SIZE],
+ *     refusal = petalchurn_preview(state, PETALCHURN_STATE_WORDS, log_, sizeof log_, work, 32 * 96, rec, 368,
+ *                                  reports, 8 * PETALCHURN_REPORT_WORDS, ticket, sizeof ticket);
+ *     if (refusal == 0 && agreed(reports))
+ *         refusal = petalchurn_commit(state, PETALCHURN_STATE_WORDS, log_, sizeof log_, work, 32 * 96, ticket, sizeof ticket);
  * and, with one static uint8_t tally[PETALCHURN_TALLY_SIZE] for all traces,
  *     if ((refusal = petalchurn_tally_enter(state, PETALCHURN_STATE_WORDS, tally, sizeof tally)) != 0)
  *         return 1;
@@ -96,7 +111,7 @@
 extern "C" {
 #endif
 
-#define PETALCHURN_VERSION 3        /* rises with every change of this interface */
+#define PETALCHURN_VERSION 4        /* rises with every change of this interface */
 #define PETALCHURN_RECORD_SIZE 368  /* bytes of a record */
 #define PETALCHURN_VOTER_LIMIT 5    /* the most voters of a record, which has places for seven */
 #define PETALCHURN_WORK_WORDS 32    /* words of the work area for each record of the capacity */
@@ -104,6 +119,7 @@ extern "C" {
 #define PETALCHURN_STATE_WORDS 59   /* words of a judge */
 #define PETALCHURN_REPORT_WORDS 7   /* words of a report */
 #define PETALCHURN_TRACE_WORDS 58   /* words of a whole trace's answer */
+#define PETALCHURN_TICKET_SIZE 376  /* bytes of a ticket */
 #define PETALCHURN_TALLY_SIZE 360   /* bytes of a tally */
 
 /* What a look-up answers: the refusal's number, and the value, which is 0 where the call is refused. */
@@ -127,6 +143,24 @@ uint64_t petalchurn_open(uint64_t tenant, const uint8_t *log, size_t log_len, ui
  * Refusals: 5, 1, 2, 3, 4, 6. */
 uint64_t petalchurn_push(uint64_t *state, size_t state_len, uint8_t *log, size_t log_len, uint64_t *work, size_t work_len,
                          const uint8_t *rec, size_t rec_len);
+
+/* Shows what a push of a record would do, and alters nothing of state, log and work. It returns what that push would return.
+ * Refusals: 8 where reports has fewer than 56 words or ticket fewer than 376 bytes (nothing is written), then 5, 1, 2, 3, 4, 6.
+ * Writes the first 56 words of reports and the first 376 bytes of ticket, at every refusal but 8 too, and leaves the rest:
+ *     not refused   the eight reports that the judge would have, seven words each; the ticket of the record
+ *     refused       the present eight reports, under 5 eight passes; a ticket of zeros
+ * Previews leave no mark: between other calls any number of them may be made, and every later call gives what it gives without. */
+uint64_t petalchurn_preview(const uint64_t *state, size_t state_len, const uint8_t *log, size_t log_len, const uint64_t *work,
+                            size_t work_len, const uint8_t *rec, size_t rec_len, uint64_t *reports, size_t reports_len,
+                            uint8_t *ticket, size_t ticket_len);
+
+/* Takes the record of a ticket where the judge has taken as many records as the ticket says, and is then the push of that record:
+ * what follows the ticket's eight bytes of count is pushed, so that a ticket of another length than 376 bytes draws 1. A second
+ * commit of one ticket draws 10, and so does a ticket of zeros, which in a judge that has taken no record draws 2. A refused
+ * commit leaves all three as they were.
+ * Refusals: 5, 10, 1, 2, 3, 4, 6. */
+uint64_t petalchurn_commit(uint64_t *state, size_t state_len, uint8_t *log, size_t log_len, uint64_t *work, size_t work_len,
+                           const uint8_t *ticket, size_t ticket_len);
 
 /* Writes the report with number k, 1 to 8, to the first seven words of out; the rest of out is left. Any other k
  * gives a pass.

@@ -1,6 +1,6 @@
--- The second demand: after every list of calls into a freshly opened judge, refused ones included, all reports and every
--- look-up are those of the rules for the records taken. Assumes nothing.
-use mathlib.Core.Path.{_≡_, sym, ap, _∙_, subst}
+-- The second demand: after every list of calls into a freshly opened judge, refused ones included, all reports, every look-up and
+-- what every preview shows are those of the rules for the records taken. Assumes nothing.
+use mathlib.Core.Path.{_≡_, ap, _∙_, subst}
 use mathlib.Core.Bool.{Bool, true, cond, _&&_}
 use mathlib.Core.List.{List, []}
 use Prim.Native.Nat.{ℕ, suc, _-_, _<_}
@@ -12,7 +12,6 @@ use Rattle.rules.specs.History.{History}
 use Rattle.rules.specs.declared.Opening.{Opening}
 use Rattle.rules.specs.Reports.{passed}
 use Rattle.rules.specs.Checks.{checkCount, reportsOf}
-use Rattle.history.specs.Logs.{hist}
 use Rattle.judge.specs.declared.opening.Opened.{Opened}
 use Rattle.judge.specs.Openings.{Fits, Opens}
 use Rattle.judge.specs.States.{State, suits}
@@ -25,19 +24,14 @@ use Rattle.judge.specs.Runs.{After, Run, stateOf, reportAt}
 use Rattle.judge.specs.Demand2.{Demand2}
 use Rattle.intake.proofs.Suiting.{fits-by}
 use Rattle.judge.proofs.Suiting.{state-suiting}
+use Rattle.judge.proofs.Pushes.{held-taken, held-indexed}
 use Rattle.judge.proofs.Demand3.{opened-ran}
+use Rattle.judge.proofs.Previews.{shown-after}
 
 module _ (h : History) (t : State) (a : After Indexed h t) where
   suited : lends (t .judge) (t .log) (t .work) ≡ true
   unfolding suits
   suited = a .fits
-
-  -- the log's records are those taken, and the columns are of them
-  taken : hist (t .log) (t .judge .count) ≡ h
-  taken = ap (hist (t .log)) (a .count) ∙ a .taken
-
-  indexed : Indexed (t .judge .capacity) (hist (t .log) (t .judge .count)) (t .work)
-  indexed = subst (λ (g : History). Indexed (t .judge .capacity) g (t .work)) (sym taken) (a .words)
 
   pub fitting : fitsBy (t .judge .capacity) (t .judge .count) ≡ true
   fitting = let u = state-suiting t (a .fits) in fits-by (u .small) (u .within)
@@ -57,7 +51,8 @@ module _ (h : History) (t : State) (a : After Indexed h t) where
       q .refusal ∙ ap (λ (b : Bool). cond b 0 5) fitting,
       q .report ∙ ap (λ (b : Bool). cond b (reportNo (t .judge .reports) (suc k)) passed) fitting ∙ called k l,
     );
-    answers = λ q out out′ r l. subst (λ (g : History). Answered q g out out′ r) taken (l .answered suited indexed);
+    answers = λ q out out′ r l. subst (λ (g : History). Answered q g out out′ r) (held-taken h t a) (l .answered suited (held-indexed h t a));
+    previewed = λ bytes r p. shown-after h t a bytes (p .shows) o e;
   }
 
 -- THE SECOND DEMAND, of the judge: a list of calls is any, so that every call of a run is the last of one

@@ -8,7 +8,7 @@ use lib.ListN.{length, getD}
 use lib.Seq.{append-snoc}
 use lib.Dec.{eqb}
 use Rattle.record.specs.Form.{refusalOf}
-use Rattle.record.specs.Records.{decode}
+use Rattle.record.specs.Records.{TraceRecord, decode}
 use Rattle.rules.specs.declared.Case.{Case}
 use Rattle.rules.specs.declared.Opening.{Opening}
 use Rattle.rules.specs.declared.Report.{Report}
@@ -23,29 +23,41 @@ use Rattle.intake.specs.Words.{Indexed}
 use Rattle.judge.specs.declared.opening.Opened.{Opened}
 use Rattle.judge.specs.declared.state.Judge.{Judge}
 use Rattle.judge.specs.Openings.{Fits, Opens}
-use Rattle.judge.specs.States.{State, suits, pushRefusal, takes}
-use Rattle.judge.specs.Calls.{Call, push, refusalAfter, afterCall, takenOf}
-use Rattle.judge.specs.Runs.{Indexing, After, Pushed, Called, Run, none, more, reportAt, Claim, Demand3, stateOf}
+use Rattle.judge.specs.declared.ticket.Ticket.{Ticket}
+use Rattle.judge.specs.States.{State, suits, pushRefusal, commitRefusal}
+use Rattle.judge.specs.Calls.{Call, push, commit, preview, refusalAfter, callRefusal, afterCall, takenOf}
+use Rattle.judge.specs.Runs.{Indexing, After, Takes, Called, Run, none, more, reportAt, Claim, Demand3, stateOf}
 use Rattle.judge.proofs.Openings.{opened-after}
 
 -- ---- the records taken
+
+same-by : (b : Bool) (h : History) → cond b h h ≡ h
+same-by true h = refl
+same-by false h = refl
+
+-- a preview, refused or not, takes none
+pub previewed-same : (cap : ℕ) (h : History) (bytes : List ℕ) → afterCall cap h (preview bytes) ≡ h
+previewed-same cap h bytes = same-by (eqb (callRefusal cap h (preview bytes)) 0) h
 
 -- a list of calls adds to the records taken
 record Longer (h g : History) : Type 0 where
   added : History
   is : g ≡ added ++ h
 
-longer-by : (cap : ℕ) (cs : List Call) (h : History) (bytes : List ℕ) → ((g : History) → Longer g (takenOf cap cs g))
-    → (b : Bool) → Longer h (takenOf cap cs (cond b (decode bytes ∷ h) h))
-longer-by cap cs h bytes f true =
-    let w = f (decode bytes ∷ h) in
-    record { added = w .added ++ (decode bytes ∷ []); is = w .is ∙ sym (append-snoc (w .added) (decode bytes) h) }
-longer-by cap cs h bytes f false = f h
+longer-by : (cap : ℕ) (cs : List Call) (h : History) (x : TraceRecord) → ((g : History) → Longer g (takenOf cap cs g))
+    → (b : Bool) → Longer h (takenOf cap cs (cond b (x ∷ h) h))
+longer-by cap cs h x f true =
+    let w = f (x ∷ h) in
+    record { added = w .added ++ (x ∷ []); is = w .is ∙ sym (append-snoc (w .added) x h) }
+longer-by cap cs h x f false = f h
 
 longer : (cap : ℕ) (cs : List Call) (h : History) → Longer h (takenOf cap cs h)
 unfolding takenOf
 longer cap [] h = record { added = []; is = refl }
-longer cap (push bytes ∷ cs) h = longer-by cap cs h bytes (longer cap cs) (eqb (refusalAfter cap h bytes) 0)
+longer cap (push bytes ∷ cs) h = longer-by cap cs h (decode bytes) (longer cap cs) (eqb (callRefusal cap h (push bytes)) 0)
+longer cap (commit k ∷ cs) h = longer-by cap cs h (decode (k .rec)) (longer cap cs) (eqb (callRefusal cap h (commit k)) 0)
+longer cap (preview bytes ∷ cs) h =
+    subst (λ (g : History). Longer h (takenOf cap cs g)) (sym (previewed-same cap h bytes)) (longer cap cs h)
 
 -- ---- a list of calls
 
@@ -57,28 +69,45 @@ module _ (Indexed : Indexing) where
       ap (λ (b : Bool). cond b (orFull (refusalOf bytes) (s .judge .capacity) (s .judge .count)) 5) (a .fits)
       ∙ ap (orFull (refusalOf bytes) (s .judge .capacity)) (a .count)
 
+  -- .. and so does a commit
+  pub commit-refusal-is : (h : History) (s : State) (k : Ticket) → After Indexed h s
+      → commitRefusal s k ≡ callRefusal (s .judge .capacity) h (commit k)
+  unfolding commitRefusal
+  commit-refusal-is h s k a =
+      ap (λ (b : Bool). cond b (cond (eqb (k .count) (s .judge .count)) (pushRefusal s (k .rec)) 10) 5) (a .fits)
+      ∙ ap (λ (n : ℕ). cond (eqb (k .count) n) (pushRefusal s (k .rec)) 10) (a .count)
+      ∙ ap (λ (r : ℕ). cond (eqb (k .count) (length h)) r 10) (refusal-is h s (k .rec) a)
+
   -- the state after h, of a capacity and an opening
   pub record Ran (cap : ℕ) (o : Opening) (h : History) (t : State) : Type 0 where
     pub after : After Indexed h t
     pub capacity : t .judge .capacity ≡ cap
     pub opening : t .judge .opening ≡ o
 
-  -- what a push leaves of it
-  step : (h : History) (s t : State) (bytes : List ℕ) → After Indexed h s → Pushed Indexed s bytes t
-      → (b : Bool) → takes s bytes ≡ b → Ran (s .judge .capacity) (s .judge .opening) (cond b (decode bytes ∷ h) h) t
-  step h s t bytes a p true e = record { after = p .taken e .after h a; capacity = p .taken e .capacity; opening = p .taken e .opening }
-  step h s t bytes a p false e =
-      let q : t ≡ s = p .refused e in
-      record {
-        after = subst (After Indexed h) (sym q) a;
-        capacity = ap (λ (u : State). u .judge .capacity) q;
-        opening = ap (λ (u : State). u .judge .opening) q;
-      }
+  -- what is left of it where nothing moved
+  stood : (h : History) (s t : State) → After Indexed h s → t ≡ s → Ran (s .judge .capacity) (s .judge .opening) h t
+  stood h s t a q = record {
+    after = subst (After Indexed h) (sym q) a;
+    capacity = ap (λ (u : State). u .judge .capacity) q;
+    opening = ap (λ (u : State). u .judge .opening) q;
+  }
+
+  -- what a call leaves of it that takes a record unless it is refused
+  step : (h : History) (s t : State) (bytes : List ℕ) (r : ℕ) → After Indexed h s → Takes Indexed r s bytes t
+      → (b : Bool) → eqb r 0 ≡ b → Ran (s .judge .capacity) (s .judge .opening) (cond b (decode bytes ∷ h) h) t
+  step h s t bytes r a p true e = record { after = p .taken e .after h a; capacity = p .taken e .capacity; opening = p .taken e .opening }
+  step h s t bytes r a p false e = stood h s t a (p .refused e)
 
   -- what a call leaves of it
-  stepped : (h : History) (s t : State) (c : Call) → After Indexed h s → Called Indexed s c t
+  pub stepped : (h : History) (s t : State) (c : Call) → After Indexed h s → Called Indexed s c t
       → Ran (s .judge .capacity) (s .judge .opening) (afterCall (s .judge .capacity) h c) t
-  stepped h s t (push bytes) a p = step h s t bytes a p (eqb (refusalAfter (s .judge .capacity) h bytes) 0) (ap (λ (n : ℕ). eqb n 0) (refusal-is h s bytes a))
+  stepped h s t (push bytes) a p =
+      step h s t bytes (pushRefusal s bytes) a p (eqb (refusalAfter (s .judge .capacity) h bytes) 0) (ap (λ (n : ℕ). eqb n 0) (refusal-is h s bytes a))
+  stepped h s t (commit k) a p =
+      step h s t (k .rec) (commitRefusal s k) a p (eqb (callRefusal (s .judge .capacity) h (commit k)) 0)
+      (ap (λ (n : ℕ). eqb n 0) (commit-refusal-is h s k a))
+  stepped h s t (preview bytes) a p =
+      subst (λ (g : History). Ran (s .judge .capacity) (s .judge .opening) g t) (sym (previewed-same (s .judge .capacity) h bytes)) (stood h s t a p)
 
   -- a list of calls from the state after h leaves the state after the records that it takes
   pub ran : (h : History) {s t : State} {cs : List Call} → After Indexed h s → Run Indexed s cs t

@@ -3,9 +3,9 @@
 use mathlib.Core.Path.{_≡_, refl, sym, ap, _∙_, subst}
 use mathlib.Core.Bool.{true, false}
 use mathlib.Core.List.{List, [], _∷_, map}
-use Prim.Native.Nat.{ℕ, suc, _+_, _≤_}
+use Prim.Native.Nat.{ℕ, suc, _+_, _*_, _≤_}
 use native.Mathlib.Omega.{arith}
-use lib.ListN.{length}
+use lib.ListN.{length, replicate}
 use lib.Dec.{eqb}
 use borrow.Author.Tests.{ne-eqb}
 use Rattle.record.specs.Records.{decode}
@@ -17,13 +17,14 @@ use Rattle.rules.specs.History.{History}
 use Rattle.rules.specs.Checks.{Check, checks, checkCount, caseAt, reportBy, reportsOf, Every}
 use Rattle.rules.proofs.Booleans.{never}
 use Rattle.rules.proofs.CaseKinds.{CaseKinds, case-kinds, VerdictWithin, report-kinds}
-use Rattle.rows.specs.Rows.{rowsOf, reportsIn}
-use Rattle.rows.proofs.ReadBack.{ReadsBack, AllRead, rows-read, rows-back}
+use Rattle.rows.specs.Rows.{rowsOf, reportsIn, KindsFit, WrittenIn}
+use Rattle.rows.proofs.Rows.{length-rows, sets-all}
+use Rattle.rows.proofs.ReadBack.{ReadsBack, AllRead, rows-read, rows-back, fit-rows}
 use Rattle.history.specs.Logs.{hist}
 use Rattle.history.proofs.Logs.{appended-hist}
 use Rattle.intake.specs.Refusals.{pushRefusalBy}
 use Rattle.intake.specs.Words.{Indexed}
-use Rattle.intake.specs.Takes.{TakenIn, TakesIn}
+use Rattle.intake.specs.Takes.{JudgedAs, TakenIn, TakesIn}
 use Rattle.intake.proofs.Suiting.{suits-by}
 use Rattle.intake.proofs.Decisions.{Room, room-of}
 use Rattle.judge.specs.declared.state.Judge.{Judge}
@@ -56,6 +57,42 @@ reports-back o h = rows-back (map (reportBy o h) checks) refl (all-read o h chec
 abbrev pub RowsOf : Judge → List ℕ → Type 0
 RowsOf j rows = (h : History) → j .reports ≡ reportsOf (j .opening) h → rows ≡ rowsOf (reportsOf (j .opening) h)
 
+-- the rows that a judge's reports are written to
+module _ (j : Judge) {rows : List ℕ} (w : WrittenIn (replicate 56 0) 0 (j .reports) rows) where
+  written : rows ≡ rowsOf (j .reports)
+  written =
+      let n : length (rowsOf (j .reports)) ≡ 56 = length-rows (j .reports) ∙ ap (λ (k : ℕ). 7 * k) (w .many) in
+      w .is ∙ sets-all (replicate 56 0) (rowsOf (j .reports)) n
+
+  pub written-size : length rows ≡ 56
+  written-size = ap length written ∙ length-rows (j .reports) ∙ ap (λ (k : ℕ). 7 * k) (w .many)
+
+  pub written-fit : KindsFit rows 0
+  written-fit = subst (λ (r : List ℕ). KindsFit r 0) (sym written) (fit-rows (j .reports) (w .many) (w .kinds))
+
+  pub written-are : RowsOf j rows
+  written-are h e = written ∙ ap rowsOf e
+
+-- the log's records are those taken, and the columns are of them
+pub held-taken : (h : History) (s : State) → After Indexed h s → hist (s .log) (s .judge .count) ≡ h
+held-taken h s a = ap (hist (s .log)) (a .count) ∙ a .taken
+
+pub held-indexed : (h : History) (s : State) → After Indexed h s → Indexed (s .judge .capacity) (hist (s .log) (s .judge .count)) (s .work)
+held-indexed h s a = subst (λ (z : History). Indexed (s .judge .capacity) z (s .work)) (sym (held-taken h s a)) (a .words)
+
+-- the rows that the judging of a record leaves are read as the reports of the records with this one more
+module _ (j : Judge) (log work rows bytes : List ℕ) {rows′ : List ℕ} (are : RowsOf j rows)
+    (judged : JudgedAs (j .opening) (j .capacity) (j .count) log work rows bytes rows′) where
+  pub reports-more : (h : History) → After Indexed h (stateOf j log work) → reportsIn rows′ 0 ≡ reportsOf (j .opening) (decode bytes ∷ h)
+  reports-more h a =
+      let o = j .opening in
+      let x = decode bytes in
+      let t : hist log (j .count) ≡ h = held-taken h (stateOf j log work) a in
+      let r : rows′ ≡ rowsOf (reportsOf o (x ∷ h)) =
+      judged (held-indexed h (stateOf j log work) a) (are (hist log (j .count)) (a .reports ∙ ap (reportsOf o) (sym t)))
+      ∙ ap (λ (z : History). rowsOf (reportsOf o (x ∷ z))) t in
+      ap (λ (w : List ℕ). reportsIn w 0) r ∙ reports-back o (x ∷ h)
+
 module _ (j : Judge) (log work rows bytes : List ℕ) {log′ work′ rows′ : List ℕ} (are : RowsOf j rows)
     (y : Room (j .capacity) (j .count) log work bytes) (k : TakenIn (j .opening) (j .capacity) (j .count) log work rows bytes log′ work′ rows′) where
   abbrev pub nextOf : Judge
@@ -72,20 +109,16 @@ module _ (j : Judge) (log work rows bytes : List ℕ) {log′ work′ rows′ : 
 
   after-more : (h : History) → After Indexed h (stateOf j log work) → After Indexed (decode bytes ∷ h) (stateOf nextOf log′ work′)
   after-more h a =
-      let o = j .opening in
       let x = decode bytes in
       let n : j .count ≡ length h = a .count in
-      let t : hist log (j .count) ≡ h = ap (hist log) n ∙ a .taken in
+      let t : hist log (j .count) ≡ h = held-taken h (stateOf j log work) a in
       let m : suc (length h) ≡ j .count + 1 = omega arith in
-      let i : Indexed (j .capacity) (hist log (j .count)) work = subst (λ (z : History). Indexed (j .capacity) z work) (sym t) (a .words) in
-      let r : rows′ ≡ rowsOf (reportsOf o (x ∷ h)) =
-      k .judged i (are (hist log (j .count)) (a .reports ∙ ap (reportsOf o) (sym t))) ∙ ap (λ (z : History). rowsOf (reportsOf o (x ∷ z))) t in
       record {
         fits = fits-more;
         count = sym m;
         taken = ap (hist log′) m ∙ appended-hist (k .appended) ∙ ap (λ (z : History). x ∷ z) t;
-        reports = ap (λ (w : List ℕ). reportsIn w 0) r ∙ reports-back o (x ∷ h);
-        words = subst (λ (z : History). Indexed (j .capacity) (x ∷ z) work′) t (k .noted .indexed i);
+        reports = reports-more j log work rows bytes are (k .judged) h a;
+        words = subst (λ (z : History). Indexed (j .capacity) (x ∷ z) work′) t (k .noted .indexed (held-indexed h (stateOf j log work) a));
       }
 
   took : Taken Indexed (stateOf j log work) bytes (stateOf nextOf log′ work′)

@@ -6,16 +6,21 @@ use Rattle.rules.specs.History.{History}
 use Rattle.judge.specs.declared.answer.Reported.{Reported}
 use Rattle.judge.specs.declared.lookup.Looked.{Looked}
 use Rattle.judge.specs.declared.lookup.Question.{Question}
+use Rattle.judge.specs.declared.preview.Previewed.{Previewed}
 use Rattle.rules.specs.declared.Opening.{Opening}
 use Rattle.rules.specs.Checks.{checkCount, reportsOf}
 use Rattle.judge.specs.States.{State, refusalNumber}
 use Rattle.judge.specs.Answers.{ReportedBy}
 use Rattle.judge.specs.Lookups.{Answered, LookedBy}
 use Rattle.judge.specs.Runs.{reportAt}
+use Rattle.judge.specs.Previews.{PreviewedBy, Shown}
 
 -- the reports are those of the rules for the records taken; the call for one of them is not refused and gives it; and so is
--- the answer to every question, none refused by 5, and by 8 only where the list is too short for it
+-- the answer to every question, none refused by 5, and by 8 only where the list is too short for it; and a preview shows what a push
+-- would do, by the rules
 pub record Demand2 (o : Opening) (h : History) (t : State) : Type 0 where
   pub reports : t .judge .reports ≡ reportsOf o h
   pub reported : (k : ℕ) (r : Reported) → k < checkCount → ReportedBy (t .judge) (suc k) r → (refusalNumber (r .refusal) ≡ 0) × (r .report ≡ reportAt k t)
   pub answers : (q : Question) (out out′ : List ℕ) (r : Looked) → LookedBy q (t .judge) (t .log) (t .work) out out′ r → Answered q h out out′ r
+  pub previewed : (bytes : List ℕ) (r : Previewed) → PreviewedBy (t .judge) (t .log) (t .work) bytes r
+      → Shown o (t .judge .capacity) h bytes (refusalNumber (r .refusal)) (r .reports) (r .ticket)

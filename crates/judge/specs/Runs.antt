@@ -4,6 +4,7 @@ use mathlib.Core.Bool.{Bool, true, false}
 use mathlib.Core.List.{List, [], _∷_}
 use Prim.Native.Nat.{ℕ, _+_, _<_}
 use lib.ListN.{length, getD}
+use lib.Dec.{eqb}
 use Rattle.record.specs.Records.{decode}
 use Rattle.rules.specs.declared.Case.{Case}
 use Rattle.rules.specs.declared.Opening.{Opening}
@@ -16,8 +17,9 @@ use Rattle.history.specs.Logs.{hist, Appended}
 use Rattle.intake.specs.Words.{Indexed}
 use Rattle.judge.specs.declared.push.Pushed as Answer
 use Rattle.judge.specs.declared.state.Judge.{Judge}
-use Rattle.judge.specs.States.{State, suits, refusalNumber, pushRefusal, takes}
-use Rattle.judge.specs.Calls.{Call, push}
+use Rattle.judge.specs.declared.ticket.Ticket.{Ticket}
+use Rattle.judge.specs.States.{State, suits, refusalNumber, pushRefusal, commitRefusal}
+use Rattle.judge.specs.Calls.{Call, push, commit, preview}
 
 -- what the columns of the work area hold after a history, for a capacity
 abbrev pub Indexing : Type 1
@@ -42,24 +44,34 @@ module _ (Indexed : Indexing) where
     pub work : length (t .work) ≡ length (s .work)
     pub after : (h : History) → After h s → After (decode bytes ∷ h) t
 
-  -- what a push leaves: "A refusal returns its number and the judge given; all buffers unchanged"
-  pub record Pushed (s : State) (bytes : List ℕ) (t : State) : Type 0 where
-    pub refused : takes s bytes ≡ false → t ≡ s
-    pub taken : takes s bytes ≡ true → Taken s bytes t
+  -- what a call leaves that takes a record unless it draws the refusal r: "A refusal returns its number and the judge given; all
+  -- buffers unchanged"
+  pub record Takes (r : ℕ) (s : State) (bytes : List ℕ) (t : State) : Type 0 where
+    pub refused : eqb r 0 ≡ false → t ≡ s
+    pub taken : eqb r 0 ≡ true → Taken s bytes t
 
-  -- what a call leaves
+  -- what a push leaves, and a commit
+  abbrev pub Pushed : State → List ℕ → State → Type 0
+  Pushed s bytes t = Takes (pushRefusal s bytes) s bytes t
+
+  abbrev pub Committed : State → Ticket → State → Type 0
+  Committed s k t = Takes (commitRefusal s k) s (k .rec) t
+
+  -- what a call leaves; a preview everything as it stands
   abbrev pub Called : State → Call → State → Type 0
   Called s (push bytes) t = Pushed s bytes t
+  Called s (commit k) t = Committed s k t
+  Called s (preview bytes) t = t ≡ s
 
   -- a list of calls: "Each push gets the judge, log and work area as the last one left them, and any bytes as its record"
   pub data Run : State → List Call → State → Type 0 where
     none : {s : State} → Run s [] s
     more : {s t u : State} {c : Call} {cs : List Call} → Called s c t → Run t cs u → Run s (c ∷ cs) u
 
--- what a call of push promises: the refusal's number by the table, and what it leaves
 abbrev pub stateOf : Judge → List ℕ → List ℕ → State
 stateOf judge log work = record { judge = judge; log = log; work = work }
 
+-- what a call of push promises: the refusal's number by the table, and what it leaves
 pub record PushedBy (j : Judge) (log work bytes : List ℕ) (r : Answer.Pushed) (log′ work′ : List ℕ) : Type 0 where
   pub refusal : refusalNumber (r .refusal) ≡ pushRefusal (stateOf j log work) bytes
   pub leaves : Pushed Indexed (stateOf j log work) bytes (stateOf (r .judge) log′ work′)

@@ -20,6 +20,7 @@ pub enum Refusal {
     Full,
     Opening,
     Output,
+    Ticket,
 }
 
 // A judge: its capacity, how many records it has taken, the opening's numbers, and the reports in printing order.
@@ -50,6 +51,7 @@ pub fn number_of(refusal: Refusal) -> u64
         Refusal::Full => 6,
         Refusal::Opening => 7,
         Refusal::Output => 8,
+        Refusal::Ticket => 10,
     }
 }
 

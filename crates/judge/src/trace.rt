@@ -2,7 +2,8 @@
 use crate::state::Judge;
 use crate::state::Refusal;
 use crate::state::refusal_of;
-use intake::take::take;
+use intake::keep::keep;
+use intake::preview::preview;
 use rows::ROWS;
 use rows::read_rows;
 use rules::Opening;
@@ -55,7 +56,8 @@ fn feed(
     let mut n: usize = 0;
     while at < trace.len() {
         let end = record_end(at, trace.len());
-        let refusal = take(log, work, rows, n, cap, tenant, &trace[at..end]);
+        let rec = &trace[at..end];
+        let refusal = preview(log, work, rows, n, cap, tenant, rec);
         if refusal != 0 {
             return Fed {
                 refusal: refusal,
@@ -63,6 +65,7 @@ fn feed(
                 count: n,
             };
         }
+        keep(log, work, n, cap, rec);
         n += 1;
         at = end;
     }

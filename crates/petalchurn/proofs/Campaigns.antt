@@ -10,7 +10,7 @@ use lib.Dec.{eqb}
 use Rattle.rules.specs.declared.Opening.{Opening}
 use Rattle.judge.specs.declared.state.Judge.{Judge}
 use Rattle.judge.specs.Openings.{Fits}
-use Rattle.judge.specs.Calls.{Call, takenOf}
+use Rattle.judge.specs.Calls.{takenOf}
 use Rattle.tally.specs.declared.Entered.{Entered}
 use Rattle.tally.specs.Entries.{refusalNumber, entryRefusal, leftBy, EntersBy}
 use Rattle.tally.specs.Campaigns as Tally-campaigns
@@ -21,7 +21,7 @@ use Rattle.state_words.specs.StateWords.{stateSize, judgeIn, isState, stateIn}
 use Rattle.petalchurn.specs.Calls.{OpensWords}
 use Rattle.petalchurn.specs.Tallies.{wordsRefusal, wordsLeft, TalliesWords, HostEntry, HostCampaign, none as done, more as next}
 use Rattle.petalchurn.specs.Tallies.{judgesEntered, LibraryEntry}
-use Rattle.petalchurn.specs.Runs.{Buffers, stateAt, HostCalls}
+use Rattle.petalchurn.specs.Runs.{Buffers, stateAt, HostCall, callsOf, HostCalls}
 use Rattle.petalchurn.proofs.Runs.{library-ran, library-demands}
 
 -- ---- a call
@@ -96,14 +96,14 @@ library-campaign es bytes c =
 -- WHAT A FINISHED JUDGE COUNTS AS, of the library: with the hypotheses of its demands
 pub library-entry : (o : Opening) (c : ℕ) (log work state : List ℕ) (r : ℕ) (work′ state′ : List ℕ) → length state ≡ stateSize
     → Fits (length log) (length work) c → OpensWords o log work state r work′ state′
-    → (cs : List Call) (z : Buffers) → HostCalls (record { state = state′; log = log; work = work′ }) cs z
-    → LibraryEntry o (takenOf c cs []) (z .state)
+    → (cs : List HostCall) (z : Buffers) → HostCalls (record { state = state′; log = log; work = work′ }) cs z
+    → LibraryEntry o (takenOf c (callsOf cs) []) (z .state)
 library-entry o c log work state r work′ state′ n f q cs z p =
     let is = library-demands o c log work state r work′ state′ n f q cs z p .state in
     let w = library-ran o c log work state r work′ state′ n f q cs z p in
     let j = judgeIn (z .state) in
-    let entry = entry-after o (takenOf c cs []) (stateAt z) (w .after) (w .opening) in
+    let entry = entry-after o (takenOf c (callsOf cs) []) (stateAt z) (w .after) (w .opening) in
     record {
       never-unfit = λ bytes s bytes′ l e five. entry-fits bytes j l entry (sym (e .refusal ∙ ap (λ x. wordsRefusal x bytes) is) ∙ five);
-      means = means-after o (takenOf c cs []) (stateAt z) (w .after) (w .opening);
+      means = means-after o (takenOf c (callsOf cs) []) (stateAt z) (w .after) (w .opening);
     }

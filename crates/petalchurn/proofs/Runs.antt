@@ -2,16 +2,18 @@
 use mathlib.Core.Path.{_≡_, refl, sym, ap, _∙_, subst}
 use mathlib.Core.Bool.{Bool, true, false, cond}
 use mathlib.Core.List.{List, [], _∷_, _++_}
-use mathlib.Core.Option.{some}
-use Prim.Native.Nat.{ℕ, suc, _+_, _≤_, _<_}
+use mathlib.Core.Option.{Option, none as missing, some}
+use Prim.Native.Nat.{ℕ, suc, _+_, _^_, _≤_, _<_}
+use native.Mathlib.Omega.{arith}
 use lib.ListN.{length, getD, drop, replicate}
 use lib.Dec.{eqb}
+use borrow.Author.Tests.{eq-eqb}
 use Rattle.rules.specs.declared.Opening.{Opening}
 use Rattle.rules.specs.declared.Report.{Report}
 use Rattle.rules.specs.History.{History}
 use Rattle.rules.specs.Reports.{passed}
 use Rattle.rules.specs.Checks.{checkCount, reportsOf}
-use Rattle.rows.specs.Rows.{reportWords, rowsOf}
+use Rattle.rows.specs.Rows.{rowsSize, reportWords, rowsOf}
 use Rattle.history.specs.Logs.{hist}
 use Rattle.intake.specs.Refusals.{fitsBy}
 use Rattle.intake.specs.Words.{Indexed}
@@ -20,26 +22,36 @@ use Rattle.judge.specs.declared.answer.Reported.{Reported}
 use Rattle.judge.specs.declared.lookup.Question.{Question}
 use Rattle.judge.specs.declared.state.Judge.{Judge}
 use Rattle.judge.specs.declared.state.Refusal.the-variants.{Nothing}
+use Rattle.judge.specs.declared.ticket.Ticket.{Ticket}
+use Rattle.judge.specs.Tickets.{ticketOf}
 use Rattle.judge.specs.States.{State, suits, refusalNumber}
 use Rattle.judge.specs.Openings.{Fits, freshOf}
-use Rattle.judge.specs.Calls.{Call, push, refusalAfter, takenOf}
+use Rattle.judge.specs.Calls as Judge-calls
+use Rattle.judge.specs.Calls.{Call, refusalAfter, callRefusal, takenOf, erased}
+use Rattle.judge.specs.Lookups.{lends}
 use Rattle.judge.specs.Answers.{reportNo, ReportedBy}
 use Rattle.judge.specs.Runs as Judge-runs
-use Rattle.judge.specs.Runs.{After, Run, stateOf, reportAt}
+use Rattle.judge.specs.Runs.{After, Called, Run, stateOf, reportAt}
+use Rattle.judge.specs.Previews.{Shown}
 use Rattle.judge.specs.Demand2.{Demand2}
 use Rattle.judge.specs.Pieces.{soundPieces, firstRefusal}
 use Rattle.judge.proofs.Suiting.{state-suiting}
 use Rattle.judge.proofs.Openings.{fresh-after}
 use Rattle.judge.proofs.Demand2.{demand2-of}
-use Rattle.judge.proofs.Demand3.{Ran, ran, refusal-is, demand3-of}
+use Rattle.judge.proofs.Demand3.{Ran, ran, refusal-is, commit-refusal-is, demand3-of}
+use Rattle.judge.proofs.Previews.{shown-after, run-erased, run-one}
 use Rattle.judge.proofs.Pieces.{whole-trace}
-use Rattle.state_words.specs.StateWords.{stateSize, judgeIn, stateIn}
-use Rattle.state_words.proofs.States.{fit-of, some-state}
+use Rattle.state_words.specs.StateWords.{stateSize, stateWords, judgeIn, stateIn}
+use Rattle.state_words.proofs.States.{fit-of, some-state, state-words}
 use Rattle.state_words.proofs.ReadBack.{state-after, state-fresh}
+use Rattle.ticket_bytes.specs.TicketBytes.{countSize, ticketSize}
 use Rattle.petalchurn.specs.declared.answer.Answer.{Answer}
 use Rattle.petalchurn.specs.Calls.{reportSize, traceSize, OpensWords, PushesWords, ReportsWords, traceWords, TracesWords}
 use Rattle.petalchurn.specs.Lookups.{AnswersWords, LooksWords}
-use Rattle.petalchurn.specs.Runs.{Buffers, stateAt, HostCalls, none as done, more as next, LibraryDemands, refusedPiece, LibraryTrace}
+use Rattle.petalchurn.specs.Previews.{bytesOfTicket, ticketIn, roomy, PreviewsWords, CommitsWords}
+use Rattle.petalchurn.specs.Runs.{Buffers, stateAt, HostCall, push, commit, preview, commitOf, callsOf, HostCalls, none as done, more as next}
+use Rattle.petalchurn.specs.Runs.{erasedCalls, commitAfter, LibraryShown, LibraryDemands, refusedPiece, LibraryTrace}
+use Rattle.petalchurn.proofs.PreviewLaws.{ticket-back}
 
 -- ---- the calls of a host are the judge's
 
@@ -49,39 +61,72 @@ record Left (j : Judge) (a : Buffers) (cs : List Call) (z : Buffers) : Type 0 wh
   is : stateIn (z .state) ≡ some judge
   run : Run Indexed (stateOf j (a .log) (a .work)) cs (stateOf judge (z .log) (z .work))
 
--- each judge that a call leaves has taken some records, so that its words read back as itself
-left-by : {a z : Buffers} {cs : List Call} (h : History) (j : Judge) → stateIn (a .state) ≡ some j
-    → After Indexed h (stateOf j (a .log) (a .work)) → HostCalls a cs z → Left j a cs z
-left-by h j e w done = record { judge = j; is = e; run = Judge-runs.none }
-left-by h j e w (next {b = b} {c = push bytes} n q r) =
+-- what the calls after a buffer leave, from any judge that stands there after some records
+abbrev Rest : Buffers → List Call → Buffers → Type 0
+Rest b cs z = (h : History) (j : Judge) → stateIn (b .state) ≡ some j → After Indexed h (stateOf j (b .log) (b .work)) → Left j b cs z
+
+-- a call that leaves the words of a judge: that judge has taken some records, so that its words read back as itself
+left-more : {a b z : Buffers} (h : History) (j i : Judge) (c : Call) (cs : List Call) → After Indexed h (stateOf j (a .log) (a .work))
+    → Called Indexed (stateOf j (a .log) (a .work)) c (stateOf i (b .log) (b .work)) → b .state ≡ stateWords i → Rest b cs z → Left j a (c ∷ cs) z
+left-more {a} {b} h j i c cs w p e rest =
+    let u = ran Indexed h w (Judge-runs.more {c = c} p Judge-runs.none) .after in
+    let l = rest _ i (ap stateIn e ∙ state-after _ (stateOf i (b .log) (b .work)) u) u in
+    record { judge = l .judge; is = l .is; run = Judge-runs.more {c = c} p (l .run) }
+
+-- a call that leaves the buffers as they stood
+left-same : {a b z : Buffers} (h : History) (j : Judge) (cs : List Call) → stateIn (a .state) ≡ some j
+    → After Indexed h (stateOf j (a .log) (a .work)) → b ≡ a → Rest b cs z → Left j a cs z
+left-same {z = z} h j cs e w q rest = subst (λ (x : Buffers). Rest x cs z) q rest h j e w
+
+-- a commit of a ticket; and of a list that is none, which is refused by 10 or 5
+refused-number : (b : Bool) {r : ℕ} → r ≡ cond b 10 5 → r ≡ 0 → ⊥
+refused-number true e z = omega arith
+refused-number false e z = omega arith
+
+left-commit : {a b z : Buffers} (h : History) (j : Judge) (bytes : List ℕ) (r : ℕ) (cs : List Call) → stateIn (a .state) ≡ some j
+    → After Indexed h (stateOf j (a .log) (a .work)) → CommitsWords (a .state) (a .log) (a .work) bytes r (b .state) (b .log) (b .work)
+    → Rest b cs z → (k : Option Ticket) → ticketIn bytes ≡ k → Left j a (commitOf k cs) z
+left-commit h j bytes r cs e w q rest (some k) t =
+    let f = q .fit j e k t in
+    left-more h j (f .judge) (Judge-calls.commit k) cs w (f .leaves) (f .words) rest
+left-commit {a} h j bytes r cs e w q rest missing t =
+    let u = q .untouched (refused-number (lends j (a .log) (a .work)) (q .short j e t)) in
+    left-same h j cs e w (λ i. record { state = u .0 i; log = u .1 i; work = u .2 i }) rest
+
+left-by : {a z : Buffers} {cs : List HostCall} → HostCalls a cs z → Rest a (callsOf cs) z
+unfolding callsOf
+left-by done h j e w = record { judge = j; is = e; run = Judge-runs.none }
+left-by (next {c = push bytes} {cs = cs} n q r) h j e w =
     let f = q .fit j e in
-    let u = ran Indexed h w (Judge-runs.more {c = push bytes} (f .leaves) Judge-runs.none) .after in
-    let l = left-by _ (f .judge) (ap stateIn (f .words) ∙ state-after _ (stateOf (f .judge) (b .log) (b .work)) u) u r in
-    record { judge = l .judge; is = l .is; run = Judge-runs.more {c = push bytes} (f .leaves) (l .run) }
+    left-more h j (f .judge) (Judge-calls.push bytes) (callsOf cs) w (f .leaves) (f .words) (left-by r)
+left-by (next {c = commit bytes} {cs = cs} n q r) h j e w = left-commit h j bytes n (callsOf cs) e w q (left-by r) (ticketIn bytes) refl
+left-by (next {a = a} {b = b} {c = preview bytes} {cs = cs} n q r) h j e w =
+    let l = left-same h j (callsOf cs) e w q (left-by r) in
+    record { judge = l .judge; is = l .is; run = Judge-runs.more {c = Judge-calls.preview bytes} refl (l .run) }
 
 module _ (o : Opening) (c : ℕ) (log work state : List ℕ) (r : ℕ) (work′ state′ : List ℕ) (size : length state ≡ stateSize)
-    (fits : Fits (length log) (length work) c) (opens : OpensWords o log work state r work′ state′) (cs : List Call) (z : Buffers)
+    (fits : Fits (length log) (length work) c) (opens : OpensWords o log work state r work′ state′) (cs : List HostCall) (z : Buffers)
     (calls : HostCalls (record { state = state′; log = log; work = work′ }) cs z) where
   -- what the judge's own opening gives
   abbrev opened : State
   opened = stateOf (freshOf c o) log (replicate (length work) 0)
 
-  left : Left (freshOf c o) (record { state = state′; log = log; work = work′ }) cs z
+  left : Left (freshOf c o) (record { state = state′; log = log; work = work′ }) (callsOf cs) z
   left =
       let w = opens .opened size c fits in
-      left-by [] (freshOf c o) (ap stateIn (w .2) ∙ state-fresh c o)
-      (subst (λ (l : List ℕ). After Indexed [] (stateOf (freshOf c o) log l)) (sym (w .1)) (fresh-after o c log work fits)) calls
+      left-by calls [] (freshOf c o) (ap stateIn (w .2) ∙ state-fresh c o)
+      (subst (λ (l : List ℕ). After Indexed [] (stateOf (freshOf c o) log l)) (sym (w .1)) (fresh-after o c log work fits))
 
   read : judgeIn (z .state) ≡ left .judge
   read = fit-of (z .state) (some-state (z .state) (left .is)) (left .is)
 
   -- A HOST'S CALLS ARE A RUN OF THE JUDGE: from what the judge's opening gives to the judge read from the words
-  pub library-run : Run Indexed opened cs (stateAt z)
+  pub library-run : Run Indexed opened (callsOf cs) (stateAt z)
   library-run =
-      subst (λ (w : List ℕ). Run Indexed (stateOf (freshOf c o) log w) cs (stateAt z)) (opens .opened size c fits .1)
-      (subst (λ (j : Judge). Run Indexed (stateOf (freshOf c o) log work′) cs (stateOf j (z .log) (z .work))) (sym read) (left .run))
+      subst (λ (w : List ℕ). Run Indexed (stateOf (freshOf c o) log w) (callsOf cs) (stateAt z)) (opens .opened size c fits .1)
+      (subst (λ (j : Judge). Run Indexed (stateOf (freshOf c o) log work′) (callsOf cs) (stateOf j (z .log) (z .work))) (sym read) (left .run))
 
-  pub library-ran : Ran Indexed c o (takenOf c cs []) (stateAt z)
+  pub library-ran : Ran Indexed c o (takenOf c (callsOf cs) []) (stateAt z)
   library-ran = ran Indexed [] (fresh-after o c log work fits) library-run
 
 -- ---- what is then read and asked
@@ -96,6 +141,40 @@ module _ (o : Opening) (c : ℕ) (h : History) (z : Buffers) (is : stateIn (z .s
   unfolding j
   pushed bytes r state′ log′ work′ q =
       q .fit j is .refusal ∙ refusal-is Indexed h (stateAt z) bytes (w .after) ∙ ap (λ (n : ℕ). refusalAfter n h bytes) (w .capacity)
+
+  -- a further commit
+  committed-by : (ticket : List ℕ) (r : ℕ) (state′ log′ work′ : List ℕ) → CommitsWords (z .state) (z .log) (z .work) ticket r state′ log′ work′
+      → (k : Option Ticket) → ticketIn ticket ≡ k → r ≡ commitAfter c h k
+  unfolding j suits
+  committed-by ticket r state′ log′ work′ q missing t = q .short j is t ∙ ap (λ (b : Bool). cond b 10 5) (w .after .fits)
+  committed-by ticket r state′ log′ work′ q (some k) t =
+      q .fit j is k t .refusal
+      ∙ commit-refusal-is Indexed h (stateAt z) k (w .after)
+      ∙ ap (λ (n : ℕ). callRefusal n h (Judge-calls.commit k)) (w .capacity)
+
+  -- the ticket of a record has the count of the records taken, which is of 64 bits
+  redeemed : (rec : List ℕ) → commitAfter c h (ticketIn (bytesOfTicket (ticketOf (length h) rec))) ≡ refusalAfter c h rec
+  redeemed rec =
+      let s = state-suiting (stateAt z) (w .after .fits) in
+      let m = s .small in
+      let l = s .within in
+      let n = w .after .count in
+      let few : length h < 256 ^ countSize = omega arith in
+      ap (commitAfter c h) (ticket-back (ticketOf (length h) rec) few)
+      ∙ ap (λ (b : Bool). cond b (refusalAfter c h rec) 10) (eq-eqb (length h) (length h) refl)
+
+  -- a preview: what it shows is by the records alone
+  previewed : (rec reports ticket : List ℕ) (r : ℕ) (reports′ ticket′ : List ℕ) → roomy reports ticket ≡ true
+      → PreviewsWords (z .state) (z .log) (z .work) rec reports ticket r reports′ ticket′ → LibraryShown o c h rec reports ticket r reports′ ticket′
+  unfolding j
+  previewed rec reports ticket r reports′ ticket′ room q =
+      let f = q .fit room j is in
+      let g = subst (λ (n : ℕ). Shown o n h rec r (f .shown) (f .held)) (w .capacity) (shown-after h (stateAt z) (w .after) rec (f .shows) o (w .opening)) in
+      record {
+        refusal = g .refuses;
+        rows = f .answer .rows .words ∙ ap (λ (rs : List Report). rowsOf rs ++ drop rowsSize reports) (g .would);
+        bytes = f .answer .bytes ∙ ap (λ (k : Ticket). bytesOfTicket k ++ drop ticketSize ticket) (g .holds);
+      }
 
   demand : Demand2 o h (stateAt z)
   demand = demand2-of h (stateAt z) (w .after) o (w .opening)
@@ -131,6 +210,9 @@ module _ (o : Opening) (c : ℕ) (h : History) (z : Buffers) (is : stateIn (z .s
     demand2 = demand;
     demand3 = demand3-of Indexed o h (stateAt z) (w .after) (w .opening);
     pushed = pushed;
+    committed = λ ticket r state′ log′ work′ q. committed-by ticket r state′ log′ work′ q (ticketIn ticket) refl;
+    redeemed = redeemed;
+    previewed = previewed;
     reported = reported;
     answered = answered;
   }
@@ -138,12 +220,48 @@ module _ (o : Opening) (c : ℕ) (h : History) (z : Buffers) (is : stateIn (z .s
 -- THE DEMANDS, of the library: for every opening without refusal and every list of calls after it, refused ones included
 pub library-demands : (o : Opening) (c : ℕ) (log work state : List ℕ) (r : ℕ) (work′ state′ : List ℕ) → length state ≡ stateSize
     → Fits (length log) (length work) c → OpensWords o log work state r work′ state′
-    → (cs : List Call) (z : Buffers) → HostCalls (record { state = state′; log = log; work = work′ }) cs z
-    → LibraryDemands o c (takenOf c cs []) z
+    → (cs : List HostCall) (z : Buffers) → HostCalls (record { state = state′; log = log; work = work′ }) cs z
+    → LibraryDemands o c (takenOf c (callsOf cs) []) z
 library-demands o c log work state r work′ state′ n f q cs z p =
     let l = left o c log work state r work′ state′ n f q cs z p in
     let e = read o c log work state r work′ state′ n f q cs z p in
-    demands o c (takenOf c cs []) z (l .is ∙ ap some (sym e)) (library-ran o c log work state r work′ state′ n f q cs z p)
+    demands o c (takenOf c (callsOf cs) []) z (l .is ∙ ap some (sym e)) (library-ran o c log work state r work′ state′ n f q cs z p)
+
+-- ---- previews
+
+-- the judge's calls without their previews are the host's without its own
+commit-erased : (k : Option Ticket) (cs : List Call) → erased (commitOf k cs) ≡ commitOf k (erased cs)
+unfolding erased
+commit-erased missing cs = refl
+commit-erased (some k) cs = refl
+
+calls-erased : (cs : List HostCall) → erased (callsOf cs) ≡ callsOf (erasedCalls cs)
+unfolding erased callsOf erasedCalls
+calls-erased [] = refl
+calls-erased (push bytes ∷ cs) = ap (λ (l : List Call). Judge-calls.push bytes ∷ l) (calls-erased cs)
+calls-erased (commit bytes ∷ cs) = commit-erased (ticketIn bytes) (callsOf cs) ∙ ap (commitOf (ticketIn bytes)) (calls-erased cs)
+calls-erased (preview bytes ∷ cs) = calls-erased cs
+
+-- PREVIEWS LEAVE NO MARK, of the library: two lists of calls after one opening that are the same without their previews leave all words
+-- and bytes the same
+pub library-previews : (o : Opening) (c : ℕ) (log work state : List ℕ) (r : ℕ) (work′ state′ : List ℕ) → length state ≡ stateSize
+    → Fits (length log) (length work) c → OpensWords o log work state r work′ state′
+    → (cs ds : List HostCall) (y z : Buffers) → erasedCalls cs ≡ erasedCalls ds
+    → HostCalls (record { state = state′; log = log; work = work′ }) cs y
+    → HostCalls (record { state = state′; log = log; work = work′ }) ds z → y ≡ z
+library-previews o c log work state r work′ state′ n f q cs ds y z e p v =
+    let u = stateOf (freshOf c o) log (replicate (length work) 0) in
+    let same : erased (callsOf cs) ≡ erased (callsOf ds) = calls-erased cs ∙ ap callsOf e ∙ sym (calls-erased ds) in
+    let run : Run Indexed u (erased (callsOf ds)) (stateAt y) =
+    subst (λ (l : List Call). Run Indexed u l (stateAt y)) same (run-erased (library-run o c log work state r work′ state′ n f q cs y p)) in
+    let other : Run Indexed u (erased (callsOf ds)) (stateAt z) = run-erased (library-run o c log work state r work′ state′ n f q ds z v) in
+    let t : stateAt y ≡ stateAt z = run-one [] (erased (callsOf ds)) (fresh-after o c log work f) run other in
+    let words : (b : Buffers) → stateIn (b .state) ≡ some (judgeIn (b .state)) → b .state ≡ stateWords (judgeIn (b .state)) =
+    λ b i. state-words (b .state) (judgeIn (b .state)) i in
+    let is = library-demands o c log work state r work′ state′ n f q cs y p .state in
+    let js = library-demands o c log work state r work′ state′ n f q ds z v .state in
+    let state = words y is ∙ ap (λ (s : State). stateWords (s .judge)) t ∙ sym (words z js) in
+    λ i. record { state = state i; log = t i .log; work = t i .work }
 
 -- ---- a whole trace
 

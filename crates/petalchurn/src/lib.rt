@@ -3,5 +3,6 @@ pub mod answer;
 pub mod calls;
 pub mod entry;
 pub mod lookups;
+pub mod preview;
 pub mod trace;
 pub mod version;

@@ -4,7 +4,9 @@ use libc::STDOUT_FILENO;
 use tally::Tally;
 
 mod ask;
+mod compare;
 mod form;
+mod preview;
 mod read;
 mod refusal;
 mod tally;

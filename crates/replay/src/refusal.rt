@@ -1,4 +1,4 @@
-// The two refusals that a run of stored traces expects.
+// The refusals that a run of stored traces expects.
 use judge::state::Refusal;
 
 // Whether a call was not refused.
@@ -13,6 +13,14 @@ pub fn is_nothing(refusal: Refusal) -> bool {
 pub fn is_length(refusal: Refusal) -> bool {
     match refusal {
         Refusal::Length => true,
+        _ => false,
+    }
+}
+
+// Whether a commit was refused since the ticket's count is not the judge's.
+pub fn is_ticket(refusal: Refusal) -> bool {
+    match refusal {
+        Refusal::Ticket => true,
         _ => false,
     }
 }

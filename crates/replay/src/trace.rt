@@ -1,15 +1,15 @@
-// The traces of `traces.bin`: the records are pushed, and after each the reports are held to the stored ones.
+// The traces of `traces.bin`: the records are previewed and taken, and after each the reports are held to the stored
+// ones.
 use crate::ask::all_asked;
+use crate::compare::has_reports;
+use crate::preview::taken_after_preview;
 use crate::read;
-use crate::refusal::is_length;
 use crate::refusal::is_nothing;
 use crate::tally::Outcome;
 use crate::tally::Tally;
 use crate::tally::counted;
 use crate::tally::is_last;
 use crate::tally::outcome_of;
-use judge::host::push_into;
-use judge::push::Pushed;
 use judge::state::Judge;
 use record::number::u64_at;
 use rows::pass;
@@ -18,7 +18,6 @@ use rules::Evidence;
 use rules::Opening;
 use rules::Report;
 use rules::Verdict;
-ghost use Rattle.judge.specs.Runs.{PushedBy};
 
 // What was read of stored reports, and whether all its bytes were there.
 struct ReadEvidence {
@@ -34,12 +33,6 @@ struct ReadReport {
 struct ReadReports {
     reports: [Report; CHECKS],
     there: bool,
-}
-
-// A judge, and whether its pushes were refused and taken as they should be.
-struct Taken {
-    judge: Judge,
-    right: bool,
 }
 
 // A trace up to some record: the judge, the stored reports, and whether everything came out as stored.
@@ -117,87 +110,14 @@ fn next_reports(fd: i32, old: [Report; CHECKS]) -> ReadReports {
     }
 }
 
-// A pass has a number that no kind has, not even a stored 0, which is no kind.
-fn verdict_number(verdict: Verdict) -> u64 {
-    match verdict {
-        Verdict::Pass => 0,
-        Verdict::Faulted(kind) => 1 + (kind as u64),
-    }
-}
-
-fn is_same_evidence(a: Evidence, b: Evidence) -> bool {
-    (a.e0 == b.e0) & (a.e1 == b.e1) & (a.e2 == b.e2) & (a.e3 == b.e3) & (a.e4 == b.e4)
-}
-
-fn is_same(a: Report, b: Report) -> bool {
-    let verdict_a = a.verdict;
-    let verdict_b = b.verdict;
-    let evidence_a = a.evidence;
-    let evidence_b = b.evidence;
-    (verdict_number(verdict_a) == verdict_number(verdict_b))
-        & (a.at == b.at)
-        & is_same_evidence(evidence_a, evidence_b)
-}
-
-// Whether a judge's report with a number from 1 on is the one given.
-fn has_report(judge: Judge, k: usize, report: Report) -> bool {
-    let reported = judge.report(k);
-    let refusal = reported.refusal;
-    let found = reported.report;
-    is_nothing(refusal) & is_same(found, report)
-}
-
-// Whether a judge's reports are those given.
-fn has_reports(judge: Judge, reports: [Report; CHECKS]) -> bool {
-    let mut same = true;
-    let mut k = 0usize;
-    while k < CHECKS {
-        same = same & has_report(judge, k + 1, reports[k]);
-        k += 1;
-    }
-    same
-}
-
-// The record pushed into a judge that is lent, as a host does.
-fn pushed_lent(judge: Judge, log: &mut [u8], work: &mut [u64], rec: &[u8]) -> Pushed
-    ensures { λ r. ⌜ PushedBy judge (now (log .entry)) (now (work .entry)) (now (rec .entry)) r (now (log .exit)) (now (work .exit)) ⌝ }
-{
-    let mut lent = judge;
-    let refusal = push_into(&mut lent, log, work, rec);
-    Pushed {
-        refusal: refusal,
-        judge: lent,
-    }
-}
-
-// The record is pushed, and before it the same one without its last byte: that one is refused, and leaves no mark.
-fn pushed(judge: Judge, log: &mut [u8], work: &mut [u64], rec: &[u8]) -> Taken {
-    if rec.len() != 368 {
-        return Taken {
-            judge: judge,
-            right: false,
-        };
-    }
-    let torn = judge.push(log, work, &rec[0..367]);
-    let first = torn.refusal;
-    let kept = torn.judge;
-    let whole = pushed_lent(kept, log, work, rec);
-    let second = whole.refusal;
-    let next = whole.judge;
-    Taken {
-        judge: next,
-        right: is_length(first) & is_nothing(second),
-    }
-}
-
-// One more record, and the reports after it.
+// One more record, and the reports after it. These are read first, since the preview of the record has to show them.
 fn after_record(fd: i32, run: Run, log: &mut [u8], work: &mut [u64], rec: &[u8]) -> Run {
     let judge = run.judge;
     let old = run.reports;
-    let taken = pushed(judge, log, work, rec);
-    let next = taken.judge;
     let stored = next_reports(fd, old);
     let reports = stored.reports;
+    let taken = taken_after_preview(judge, log, work, rec, old, reports);
+    let next = taken.judge;
     Run {
         judge: next,
         reports: reports,

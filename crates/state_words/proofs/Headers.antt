@@ -4,10 +4,11 @@ use mathlib.Core.List.{List, [], _∷_, _++_, append-nil}
 use Prim.Native.Nat.{ℕ, zero, suc, _+_, _*_, _≤_, _<_}
 use native.Mathlib.Omega.{arith}
 use lib.ListN.{length, getD, take, drop, set, length-drop, drop-of-length-le, take-append-drop}
-use lib.Seq.{drop-cons, getD-drop, take-all}
+use lib.Seq.{drop-cons, getD-drop, take-all, sets}
 use Rattle.rules.specs.declared.Opening.{Opening}
 use Rattle.rules.specs.declared.Report.{Report}
 use Rattle.rows.specs.Rows.{rowsSize, verdictIn, reportIn, reportsFrom, reportsIn, KindsFit}
+use Rattle.rows.proofs.Rows.{sets-front}
 use Rattle.rows.proofs.ReadBack.{rows-read}
 use Rattle.judge.specs.Traces.{judgeBy}
 use Rattle.rules.specs.Checks.{checkCount}
@@ -120,3 +121,24 @@ module _ (words : List ℕ) (size : length words ≡ stateSize) where
   pub with-count : (rows : List ℕ) (n : ℕ) → length rows ≡ rowsSize
       → set (withRows words rows) 1 n ≡ stateWords (judgeBy (openingIn words) (getD words 0 0) n rows)
   with-count rows n e = ap (λ (l : List ℕ). set l 1 n) (with-read rows) ∙ words-by (getD words 0 0) n (getD words 2 0) rows e
+
+-- ---- the rows, copied word by word
+
+-- what is still to be copied from a place on
+pub copy-next : (out words : List ℕ) (at i : ℕ) → at + i < length words
+    → sets out i (drop (at + i) words) ≡ sets (set out i (getD words (at + i) 0)) (i + 1) (drop (at + (i + 1)) words)
+copy-next out words at i l =
+    let m : suc (at + i) ≡ at + (i + 1) = omega arith in
+    let n : suc i ≡ i + 1 = omega arith in
+    ap (sets out i) (drop-cons words (at + i) 0 l)
+    ∙ (λ k. sets (set out i (getD words (at + i) 0)) (n k) (drop (m k) words))
+
+pub copy-end : (out words : List ℕ) (at i : ℕ) → length words ≤ at + i → sets out i (drop (at + i) words) ≡ out
+copy-end out words at i l = ap (sets out i) (drop-of-length-le words {i = at + i} l)
+
+-- the rows at the front of a list
+pub rows-front : (words out : List ℕ) → length words ≡ stateSize → rowsSize ≤ length out
+    → sets out 0 (drop headerSize words) ≡ drop headerSize words ++ drop rowsSize out
+rows-front words out e l =
+    let n : length (drop headerSize words) ≡ rowsSize = rows-size words e in
+    sets-front out (drop headerSize words) (omega arith) ∙ ap (λ (k : ℕ). drop headerSize words ++ drop k out) n

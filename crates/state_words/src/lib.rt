@@ -1,4 +1,4 @@
-// A judge as the words that a host keeps between calls: a header, and seven words for each check. Read, and written.
+// A judge as the words that a host keeps between calls: a header, and seven words for each check. Read, written, and its rows copied.
 use judge::state::Judge;
 use rows::ROWS;
 use rows::kinds_fit;
@@ -6,8 +6,11 @@ use rows::read_rows;
 use rows::write_rows;
 use rules::Opening;
 ghost use mathlib.Core.Path.{_≡_};
-ghost use lib.ListN.{length};
-ghost use Rattle.state_words.specs.StateWords.{stateSize, stateWords, judgeIn, isState, IsState};
+ghost use mathlib.Core.List.{_++_};
+ghost use Prim.Native.Nat.{_≤_};
+ghost use lib.ListN.{length, drop};
+ghost use Rattle.rows.specs.Rows.{rowsSize};
+ghost use Rattle.state_words.specs.StateWords.{headerSize, stateSize, stateWords, judgeIn, isState, IsState};
 
 // The words before the reports: capacity, count, tenant.
 pub const HEADER: usize = 3;
@@ -58,4 +61,16 @@ pub fn write_state(state: &mut [u64], judge: Judge)
     state[COUNT_WORD] = judge.count as u64;
     state[TENANT_WORD] = opening.tenant;
     write_rows(state, HEADER, reports);
+}
+
+// Copies the words of a judge's reports to the front of a list.
+pub fn copy_rows(state: &[u64], out: &mut [u64])
+    requires { ⌜ (length (now state) ≡ stateSize) × (rowsSize ≤ length (now out)) ⌝ }
+    ensures { λ _. ⌜ now (out .exit) ≡ drop headerSize (now (state .entry)) ++ drop rowsSize (now (out .entry)) ⌝ }
+{
+    let mut i = 0usize;
+    while i < ROWS {
+        out[i] = state[HEADER + i];
+        i += 1;
+    }
 }

@@ -7,7 +7,9 @@ use mathlib.Core.List.{List}
 use borrow.Author.Needs.{needs}
 use Rattle.rules.specs.declared.Opening.{Opening}
 use Rattle.rows.specs.Rows.{KindsFit}
+use Rattle.intake.specs.Takes.{Keepable, KeptIn}
 use Rattle.intake.proofs.Decisions.{push-few}
+use Rattle.intake.proofs.Takes.{takes-off, takes-on, keepable}
 use Rattle.judge.specs.States.{State}
 use Rattle.judge.specs.Runs.{stateOf}
 use Rattle.judge.specs.Traces.{Feeds, ends, judgeBy}
@@ -25,8 +27,8 @@ Inv-loop log₀ work₀ rows₀ cap tenant trace at₀ n₀ log work rows at n =
 abbrev μ-loop : tie.MeasureT-loop
 μ-loop log₀ work₀ rows₀ cap tenant trace at₀ n₀ log work rows at n = length trace - at
 
--- where a record has been taken or refused: what the rest of the trace comes to
-module _ (c : tie.After-take Inv-loop μ-loop) where
+-- where a record has been judged: what the rest of the trace comes to
+module _ (c : tie.After-preview Inv-loop μ-loop) where
   abbrev l : tie.At-loop Inv-loop μ-loop
   l = c .before .before .before .before .before .before .before
 
@@ -45,14 +47,11 @@ module _ (c : tie.After-take Inv-loop μ-loop) where
   abbrev first : State
   first = stateOf (judgeBy o (s .args .cap) 0 (s .args .rows .now)) (s .args .log .now) (s .args .work .now)
 
-  abbrev log′ : List ℕ
-  log′ = c .take .last .0
-
-  abbrev work′ : List ℕ
-  work′ = c .take .last .1 .0
+  abbrev bytes : List ℕ
+  bytes = take (end - l .loop .at) (drop (l .loop .at) trace)
 
   abbrev rows′ : List ℕ
-  rows′ = c .take .last .1 .1 .0
+  rows′ = c .preview .last .1 .1 .0
 
   size : length (l .loop .rows) ≡ 56
   size = l .loop .inv .4 ∙ s .pre
@@ -62,29 +61,35 @@ module _ (c : tie.After-take Inv-loop μ-loop) where
       let x : l .loop .at < length trace = c .before .before .before .before .before .before .loop-test .taken in
       rw (length-drop (l .loop .at) trace) (omega arith)
 
-  part : take (end - l .loop .at) (drop (l .loop .at) trace) ≡ take 368 (drop (l .loop .at) trace)
+  part : bytes ≡ take 368 (drop (l .loop .at) trace)
   part = record-part trace (l .loop .at) end (c .before .before .before .before .before .record-end .ensures)
 
-  on : c .take .result ≡ 0 → (f a : ℕ) (t : State)
+  kept : c .preview .result ≡ 0 → Keepable (s .args .cap) (l .loop .n) (l .loop .log) (l .loop .work) bytes
+  kept = keepable o (s .args .cap) (l .loop .n) (l .loop .log) (l .loop .work) (l .loop .rows) bytes (c .preview .ensures)
+
+  on : {log′ work′ : List ℕ} → c .preview .result ≡ 0 → KeptIn (s .args .cap) (l .loop .n) (l .loop .log) (l .loop .work) bytes log′ work′
+      → (f a : ℕ) (t : State)
       → Feeds (stateOf (judgeBy o (s .args .cap) (l .loop .n + 1) rows′) log′ work′) (drop end trace) (l .loop .n + 1) f a t → Feeds first trace 0 f a t
-  on q f a t w =
+  on {log′} {work′} q k f a t w =
       let there = stateOf (judgeBy o (s .args .cap) (l .loop .n + 1) rows′) log′ work′ in
       let ended = c .before .before .before .before .before .record-end .ensures in
       let e : drop end trace ≡ drop 368 (drop (l .loop .at) trace) = record-rest trace (l .loop .at) end ended in
+      let p = takes-on o (s .args .cap) (l .loop .n) (l .loop .log) (l .loop .work) (l .loop .rows) bytes (c .preview .ensures) q k in
       l .loop .inv .6 f a t
-      (feeds-on o (s .args .cap) (l .loop .n) (l .loop .log) (l .loop .work) (l .loop .rows) (drop (l .loop .at) trace) some part size (c .take .ensures) q
+      (feeds-on o (s .args .cap) (l .loop .n) (l .loop .log) (l .loop .work) (l .loop .rows) (drop (l .loop .at) trace) some part size p refl
       (subst (λ (r : List ℕ). Feeds there r (l .loop .n + 1) f a t) e w))
 
-  off : (c .take .result ≡ 0 → ⊥)
-      → Feeds first trace 0 (c .take .result) (l .loop .n + 1) (stateOf (judgeBy o (s .args .cap) (l .loop .n) rows′) log′ work′)
+  off : (c .preview .result ≡ 0 → ⊥)
+      → Feeds first trace 0 (c .preview .result) (l .loop .n + 1) (stateOf (judgeBy o (s .args .cap) (l .loop .n) rows′) (l .loop .log) (l .loop .work))
   off q =
+      let p = takes-off o (s .args .cap) (l .loop .n) (l .loop .log) (l .loop .work) (l .loop .rows) bytes (c .preview .ensures) q in
       l .loop .inv .6 _ _ _
-      (feeds-off o (s .args .cap) (l .loop .n) (l .loop .log) (l .loop .work) (l .loop .rows) (drop (l .loop .at) trace) some part size (c .take .ensures) q)
+      (feeds-off o (s .args .cap) (l .loop .n) (l .loop .log) (l .loop .work) (l .loop .rows) (drop (l .loop .at) trace) some part size p q)
 
-  few : c .take .result ≤ 6
+  few : c .preview .result ≤ 6
   few =
-      let e = c .take .ensures .refusal in
-      let f = push-few (s .args .cap) (l .loop .n) (length (l .loop .log)) (length (l .loop .work)) (take (end - l .loop .at) (drop (l .loop .at) trace)) in
+      let e = c .preview .ensures .refusal in
+      let f = push-few (s .args .cap) (l .loop .n) (length (l .loop .log)) (length (l .loop .work)) bytes in
       omega arith
 
 loop-holds : tie.Need-loop-holds Inv-loop μ-loop
@@ -93,17 +98,17 @@ loop-holds c = (omega arith, omega arith, refl, refl, refl, λ f. f, λ f a t w.
 record-end-requires : tie.Need-record-end-requires Inv-loop μ-loop
 record-end-requires c κs = search needs
 
-sub-take : tie.Need-sub-take Inv-loop μ-loop
-sub-take c = search needs
+sub-rec : tie.Need-sub-rec Inv-loop μ-loop
+sub-rec c = search needs
 
-part-take-start : tie.Need-part-take-start Inv-loop μ-loop
-part-take-start c = search needs
+part-rec-start : tie.Need-part-rec-start Inv-loop μ-loop
+part-rec-start c = search needs
 
-part-take-end : tie.Need-part-take-end Inv-loop μ-loop
-part-take-end c = search needs
+part-rec-end : tie.Need-part-rec-end Inv-loop μ-loop
+part-rec-end c = search needs
 
-take-requires : tie.Need-take-requires Inv-loop μ-loop
-take-requires c κs =
+preview-requires : tie.Need-preview-requires Inv-loop μ-loop
+preview-requires c κs =
     let i = c .before .before .before .before .before .before in
     i .loop .inv .4 ∙ i .before .before .before .before .before .pre
 
@@ -111,23 +116,26 @@ add-t22 : tie.Need-add-t22 Inv-loop μ-loop
 add-t22 c = search needs
 
 same-length : tie.Need-same-length Inv-loop μ-loop
-same-length c = let t = c .before .before .before .before .before .before .before in t .take .kept .0 ∙ l t .loop .inv .2
+same-length c = l (c .before .before .before) .loop .inv .2
 
 same-length-2 : tie.Need-same-length-2 Inv-loop μ-loop
-same-length-2 c = let t = c .before .before .before .before .before .before .before in t .take .kept .1 .0 ∙ l t .loop .inv .3
+same-length-2 c = l (c .before .before .before) .loop .inv .3
 
 same-length-3 : tie.Need-same-length-3 Inv-loop μ-loop
-same-length-3 c = let t = c .before .before .before .before .before .before .before in t .take .kept .1 .1 .0 ∙ l t .loop .inv .4
+same-length-3 c = let p = c .before .before .before in p .preview .ensures .size ∙ l p .loop .inv .4
 
 returns : tie.Need-returns Inv-loop μ-loop
 returns c =
-    let t = c .before .before .before .before .before .before .before in
+    let p = c .before .before .before in
     record {
-      feeds = off t (c .if1 .taken);
-      size = t .take .ensures .size ∙ l t .loop .inv .4;
-      fits = λ f. t .take .ensures .fits (l t .loop .inv .5 f);
-      few = few t;
+      feeds = off p (c .if1 .taken);
+      size = p .preview .ensures .size ∙ l p .loop .inv .4;
+      fits = λ f. p .preview .ensures .fits (l p .loop .inv .5 f);
+      few = few p;
     }
+
+keep-requires : tie.Need-keep-requires Inv-loop μ-loop
+keep-requires c κs = let i = c .before .before in kept (i .before .before .before) (i .if1 .left)
 
 add-n : tie.Need-add-n Inv-loop μ-loop
 add-n c = search needs
@@ -137,19 +145,20 @@ loop-less c = search needs
 
 loop-again : tie.Need-loop-again Inv-loop μ-loop
 loop-again c =
-    let t = c .before .before .before .before .before .before .before in
-    let i = l t .loop .inv in
-    let e = t .before .before .before .before .before .record-end .ensures in
+    let k = c .before .before .before .before in
+    let p = k .before .before .before .before .before .before in
+    let i = l p .loop .inv in
+    let e = p .before .before .before .before .before .record-end .ensures in
     let a = e .0 in
     let b = e .1 in
     let n = i .1 in (
       omega arith,
       omega arith,
-      t .take .kept .0 ∙ i .2,
-      t .take .kept .1 .0 ∙ i .3,
-      t .take .ensures .size ∙ i .4,
-      λ f. t .take .ensures .fits (i .5 f),
-      on t (c .if1 .left),
+      k .keep .kept .0 ∙ i .2,
+      k .keep .kept .1 .0 ∙ i .3,
+      p .preview .ensures .size ∙ i .4,
+      λ f. p .preview .ensures .fits (i .5 f),
+      on p (k .before .before .before .if1 .left) (k .keep .ensures),
     )
 
 same-length-4 : tie.Need-same-length-4 Inv-loop μ-loop
@@ -176,15 +185,16 @@ feed-spec =
     μ-loop
     loop-holds
     record-end-requires
-    sub-take
-    part-take-start
-    part-take-end
-    take-requires
+    sub-rec
+    part-rec-start
+    part-rec-end
+    preview-requires
     add-t22
     same-length
     same-length-2
     same-length-3
     returns
+    keep-requires
     add-n
     loop-less
     loop-again

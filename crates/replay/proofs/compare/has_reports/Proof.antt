@@ -1,8 +1,8 @@
--- `replay::trace::has_reports` is safe and ends: the measure is how many reports are left.
+-- `replay::compare::has_reports` is safe and ends: the measure is how many reports are left.
 use Prim.Native.Nat.{_≤_, _-_}
 use borrow.Author.Needs.{needs}
-use Rattle.replay.proofs.trace.has_reports.Statement.{statement}
-use Rattle.replay.proofs.trace.has_reports.Tie as tie
+use Rattle.replay.proofs.compare.has_reports.Statement.{statement}
+use Rattle.replay.proofs.compare.has_reports.Tie as tie
 
 abbrev Inv-loop : tie.InvT-loop
 Inv-loop judge reports same₀ k₀ same k = k ≤ 8

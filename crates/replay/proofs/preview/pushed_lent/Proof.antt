@@ -1,4 +1,4 @@
--- `replay::trace::pushed_lent` meets its contract: a walk of its MIR, by hand, in which a local that holds the judge is lent to `push_into`.
+-- `replay::preview::pushed_lent` meets its contract: a walk of its MIR, by hand, in which a local that holds the judge is lent to `push_into`.
 -- The judge is copied into the local. The local is lent for a lifetime that the walk makes; after the call the walk ends that lifetime and has the local
 -- back at the last value that `push_into` says. The log and the work area go to `push_into` at their own lifetimes, shares and names, given up for good;
 -- the record, which is Copy, is had twice. All that the proof knows of `push_into` is that it meets its contract.
@@ -63,10 +63,10 @@ use Rattle.judge.proofs.host.push_into as push-into
 use Rattle.judge.proofs.host.push_into.Symbol as push-into-def
 use Rattle.judge.proofs.host.push_into.Symbol.{name as #judge·push-into}
 use Rattle.judge.proofs.host.push_into.Met as push-into-thm
-use Rattle.replay.proofs.trace.pushed_lent.Key.{name as #replay·pushed-lent}
-use Rattle.replay.proofs.trace.pushed_lent as pushed-lent
-use Rattle.replay.proofs.trace.pushed_lent.Statement as stated
-use Rattle.replay.proofs.trace.pushed_lent.Code as code
+use Rattle.replay.proofs.preview.pushed_lent.Key.{name as #replay·pushed-lent}
+use Rattle.replay.proofs.preview.pushed_lent as pushed-lent
+use Rattle.replay.proofs.preview.pushed_lent.Statement as stated
+use Rattle.replay.proofs.preview.pushed_lent.Code as code
 
 abbrev stayed : Stays (pushed-lent.ended .signature .params) (pushed-lent.ended .kept)
 stayed = (

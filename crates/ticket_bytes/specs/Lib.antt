@@ -1,0 +1,2 @@
+-- A ticket as bytes.
+pub mod TicketBytes
