@@ -74,6 +74,10 @@ fn compare(row: &Row, loose: bool) {
         let (taken, reports) = buffers.answer();
         assert_eq!(taken as usize, row.size, "{}: records taken", row.name);
         assert_eq!(buffers.pushed(), (taken, reports), "{}: a trace and its pushes differ", row.name);
+        let pushed = buffers.state();
+        buffers.preview(TENANT, &trace.bytes);
+        assert_eq!(buffers.state(), pushed, "{}: pushes and commits differ", row.name);
+        assert_eq!(buffers.previewed(), pushed[3..], "{}: a preview and its record", row.name);
         for check in 0..CHECKS.len() {
             let (ours, rust) = (reports[check], trace.reports[check]);
             if ours != rust {
@@ -90,8 +94,8 @@ fn faults(row: &Row) -> usize {
 }
 
 /// The sides that are measured.
-const SIDES: usize = 6;
-const NAMES: [&str; SIDES] = ["judge", "Rust", "direct", "decoded", "each", "push"];
+const SIDES: usize = 7;
+const NAMES: [&str; SIDES] = ["judge", "Rust", "direct", "decoded", "each", "push", "preview"];
 
 fn run(side: usize, row: &Row, buffers: &mut Buffers) -> u64 {
     let mut kept = Vec::with_capacity(row.traces.len());
@@ -103,7 +107,8 @@ fn run(side: usize, row: &Row, buffers: &mut Buffers) -> u64 {
             2 => kept.push(sides::rust_direct(TENANT, &trace.bytes)),
             3 => kept.push(sides::rust_decoded(TENANT, &trace.events)),
             4 => kept.push(sides::rust_each(TENANT, &trace.bytes)),
-            _ => buffers.push(TENANT, &trace.bytes),
+            5 => buffers.push(TENANT, &trace.bytes),
+            _ => buffers.preview(TENANT, &trace.bytes),
         }
     }
     let time = clock::now() - from;
@@ -131,7 +136,10 @@ fn print(row: &Row, rounds: usize, capacity: Option<usize>, loose: bool) {
     for time in times {
         print!(" {time:.0} |");
     }
-    println!(" {:.2} | {:.2} |", times[0] / times[1], times[0] / times[2]);
+    for (over, under) in [(0, 1), (0, 2), (6, 5)] {
+        print!(" {:.2} |", times[over] / times[under]);
+    }
+    println!();
 }
 
 /// Writes the traces of a row to files, for a profiler or the oracle's tools.
@@ -202,8 +210,9 @@ fn main() {
     }
     if !rows.is_empty() {
         let names = NAMES.join(" | ");
-        println!("| trace | records | faults | {names} | judge/Rust | judge/direct |");
-        println!("|---|---|---|---|---|---|---|---|---|---|---|");
+        let ratios = "judge/Rust | judge/direct | preview/push";
+        println!("| trace | records | faults | {names} | {ratios} |");
+        println!("|{}", "---|".repeat(3 + SIDES + 3));
     }
     for row in &rows {
         print(row, rounds, capacity, loose);

@@ -45,6 +45,34 @@ unsafe extern "C" {
         rec: *const u8,
         rec_length: usize,
     ) -> u64;
+
+    #[allow(clippy::too_many_arguments)]
+    fn petalchurn_preview(
+        state: *const u64,
+        state_length: usize,
+        log: *const u8,
+        log_length: usize,
+        work: *const u64,
+        work_length: usize,
+        rec: *const u8,
+        rec_length: usize,
+        reports: *mut u64,
+        reports_length: usize,
+        ticket: *mut u8,
+        ticket_length: usize,
+    ) -> u64;
+
+    #[allow(clippy::too_many_arguments)]
+    fn petalchurn_commit(
+        state: *mut u64,
+        state_length: usize,
+        log: *mut u8,
+        log_length: usize,
+        work: *mut u64,
+        work_length: usize,
+        ticket: *const u8,
+        ticket_length: usize,
+    ) -> u64;
 }
 
 /// How many words an answer has: records taken, the refused record, eight reports of seven.
@@ -53,18 +81,25 @@ const ANSWER: usize = 58;
 /// How many words a judge has: capacity, count, tenant, eight reports of seven.
 pub const STATE: usize = 59;
 
+/// How many words a preview's reports have, and how many bytes its ticket.
+const REPORTS: usize = 56;
+const TICKET: usize = 376;
+
 /// The buffers that a host lends the judge, for one capacity.
 pub struct Buffers {
     log: Vec<u8>,
     work: Vec<u64>,
     out: [u64; ANSWER],
     state: [u64; STATE],
+    reports: [u64; REPORTS],
+    ticket: [u8; TICKET],
 }
 
 impl Buffers {
     pub fn new(capacity: usize) -> Buffers {
         let (log, work) = (vec![0; RECORD * capacity], vec![0; 32 * capacity]);
-        Buffers { log, work, out: [0; ANSWER], state: [0; STATE] }
+        let (reports, ticket) = ([0; REPORTS], [0; TICKET]);
+        Buffers { log, work, out: [0; ANSWER], state: [0; STATE], reports, ticket }
     }
 
     /// Judges a trace. The call opens the judge, which clears the work area.
@@ -88,19 +123,8 @@ impl Buffers {
 
     /// The same record by record: opens a judge and pushes each, its words kept between the calls.
     pub fn push(&mut self, tenant: u64, trace: &[u8]) {
+        self.open(tenant);
         let (log, work, state) = (&mut self.log, &mut self.work, &mut self.state);
-        let refusal = unsafe {
-            petalchurn_open(
-                tenant,
-                log.as_ptr(),
-                log.len(),
-                work.as_mut_ptr(),
-                work.len(),
-                state.as_mut_ptr(),
-                STATE,
-            )
-        };
-        assert_eq!(refusal, 0, "an opening was refused");
         for record in trace.chunks(RECORD) {
             let refusal = unsafe {
                 petalchurn_push(
@@ -119,19 +143,84 @@ impl Buffers {
         black_box(&self.state);
     }
 
+    /// The same with each record previewed, and then committed by its ticket.
+    pub fn preview(&mut self, tenant: u64, trace: &[u8]) {
+        self.open(tenant);
+        for record in trace.chunks(RECORD) {
+            assert_eq!(self.show(record), 0, "a preview was refused");
+            black_box(&self.reports);
+            assert_eq!(self.commit(), 0, "a commit was refused");
+        }
+        black_box(&self.state);
+    }
+
+    fn open(&mut self, tenant: u64) {
+        let refusal = unsafe {
+            petalchurn_open(
+                tenant,
+                self.log.as_ptr(),
+                self.log.len(),
+                self.work.as_mut_ptr(),
+                self.work.len(),
+                self.state.as_mut_ptr(),
+                STATE,
+            )
+        };
+        assert_eq!(refusal, 0, "an opening was refused");
+    }
+
+    fn show(&mut self, record: &[u8]) -> u64 {
+        unsafe {
+            petalchurn_preview(
+                self.state.as_ptr(),
+                STATE,
+                self.log.as_ptr(),
+                self.log.len(),
+                self.work.as_ptr(),
+                self.work.len(),
+                record.as_ptr(),
+                record.len(),
+                self.reports.as_mut_ptr(),
+                REPORTS,
+                self.ticket.as_mut_ptr(),
+                TICKET,
+            )
+        }
+    }
+
+    fn commit(&mut self) -> u64 {
+        unsafe {
+            petalchurn_commit(
+                self.state.as_mut_ptr(),
+                STATE,
+                self.log.as_mut_ptr(),
+                self.log.len(),
+                self.work.as_mut_ptr(),
+                self.work.len(),
+                self.ticket.as_ptr(),
+                TICKET,
+            )
+        }
+    }
+
     /// The eight reports of the last trace, and how many records it took.
     pub fn answer(&self) -> (u64, Reports) {
         (self.out[0], std::array::from_fn(|check| report(&self.out[2 + 7 * check..])))
     }
 
-    /// The same of the last trace that was pushed.
+    /// The same of the last trace that was pushed or committed.
     pub fn pushed(&self) -> (u64, Reports) {
         (self.state[1], std::array::from_fn(|check| report(&self.state[3 + 7 * check..])))
     }
 
-    /// The judge of the last trace that was pushed.
+    /// The judge of the last trace that was pushed or committed.
     pub fn state(&self) -> [u64; STATE] {
         self.state
+    }
+
+    /// What was previewed of its last record.
+    pub fn previewed(&self) -> [u64; REPORTS] {
+        self.reports
     }
 }
 

@@ -1,5 +1,5 @@
-/* A C host: the library's version, then two grants of ids that share an id, pushed one at a time, counted in a tally, and then
- * judged as one trace. */
+/* A C host: the library's version, then two grants of ids that share an id, the first pushed, the second shown to an operator and
+ * then committed, counted in a tally, and then judged as one trace. */
 #include <inttypes.h>
 #include <stdio.h>
 #include <string.h>
@@ -12,6 +12,8 @@ static uint8_t log_bytes[PETALCHURN_RECORD_SIZE * CAPACITY];
 static uint64_t work[PETALCHURN_WORK_WORDS * CAPACITY];
 static uint64_t state[PETALCHURN_STATE_WORDS];
 static uint8_t tally[PETALCHURN_TALLY_SIZE];
+static uint64_t previewed[8 * PETALCHURN_REPORT_WORDS];
+static uint8_t ticket[PETALCHURN_TICKET_SIZE];
 
 static const char *const checks[8] = {"agreement", "overlap", "install", "twice", "half", "generations", "ids", "meta"};
 
@@ -52,6 +54,49 @@ static uint64_t push(const uint8_t *rec, size_t len) {
     return petalchurn_push(state, PETALCHURN_STATE_WORDS, log_bytes, sizeof log_bytes, work, CAPACITY * PETALCHURN_WORK_WORDS, rec, len);
 }
 
+static uint64_t preview(const uint8_t *rec, size_t len) {
+    return petalchurn_preview(state, PETALCHURN_STATE_WORDS, log_bytes, sizeof log_bytes, work, CAPACITY * PETALCHURN_WORK_WORDS, rec, len,
+                              previewed, 8 * PETALCHURN_REPORT_WORDS, ticket, sizeof ticket);
+}
+
+static uint64_t commit(void) {
+    return petalchurn_commit(state, PETALCHURN_STATE_WORDS, log_bytes, sizeof log_bytes, work, CAPACITY * PETALCHURN_WORK_WORDS, ticket,
+                             sizeof ticket);
+}
+
+/* What the previewed record would do, for an operator: each report that would change, and the one that still stands. */
+static void show_changes(void) {
+    for (size_t i = 0; i < 8; i++) {
+        const uint64_t *then = previewed + PETALCHURN_REPORT_WORDS * i;
+        uint64_t now[PETALCHURN_REPORT_WORDS];
+        petalchurn_report(state, PETALCHURN_STATE_WORDS, i + 1, now, PETALCHURN_REPORT_WORDS);
+        if (memcmp(then, now, sizeof now) == 0)
+            continue;
+        printf("would be: ");
+        print_report(checks[i], then);
+        printf("still is: ");
+        print_report(checks[i], now);
+    }
+}
+
+/* A refused preview gives a ticket of zeros, which names no record. */
+static int is_zeros(void) {
+    for (size_t i = 0; i < sizeof ticket; i++)
+        if (ticket[i] != 0)
+            return 0;
+    return 1;
+}
+
+/* A record shown and then committed by its ticket, which serves once: after that the count is another. */
+static void show_then_commit(const uint8_t *rec) {
+    printf("preview %" PRIu64 "\n", preview(rec, PETALCHURN_RECORD_SIZE));
+    show_changes();
+    printf("commit %" PRIu64 "\n", commit());
+    printf("commit of the same ticket %" PRIu64 "\n", commit());
+    printf("preview of 367 bytes %" PRIu64 ", ", preview(rec, PETALCHURN_RECORD_SIZE - 1));
+    printf("%s\n", is_zeros() ? "a ticket of zeros" : "a ticket");
+}
+
 int main(void) {
     uint8_t trace[2 * PETALCHURN_RECORD_SIZE];
     uint8_t *second = trace + PETALCHURN_RECORD_SIZE;
@@ -69,7 +114,7 @@ int main(void) {
     printf("open %" PRIu64 "\n",
            petalchurn_open(0, log_bytes, sizeof log_bytes, work, CAPACITY * PETALCHURN_WORK_WORDS, state, PETALCHURN_STATE_WORDS));
     printf("push %" PRIu64 "\n", push(trace, PETALCHURN_RECORD_SIZE));
-    printf("push %" PRIu64 "\n", push(second, PETALCHURN_RECORD_SIZE));
+    show_then_commit(second);
     printf("push of 367 bytes %" PRIu64 "\n", push(trace, PETALCHURN_RECORD_SIZE - 1));
 
     printf("report %" PRIu64 "\n", petalchurn_report(state, PETALCHURN_STATE_WORDS, 7, report, PETALCHURN_REPORT_WORDS));

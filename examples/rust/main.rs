@@ -1,5 +1,5 @@
-//! A Rust host: the library's version, then two grants of ids that share an id, pushed one at a time, counted in a tally, and then
-//! judged as one trace.
+//! A Rust host: the library's version, then two grants of ids that share an id, the first pushed, the second shown to an operator
+//! and then committed, counted in a tally, and then judged as one trace.
 
 /// What a look-up answers: the refusal's number, and the value, 0 where the call is refused.
 #[repr(C)]
@@ -32,6 +32,30 @@ mod library {
             work_len: usize,
             rec: *const u8,
             rec_len: usize,
+        ) -> u64;
+        pub fn petalchurn_preview(
+            state: *const u64,
+            state_len: usize,
+            log: *const u8,
+            log_len: usize,
+            work: *const u64,
+            work_len: usize,
+            rec: *const u8,
+            rec_len: usize,
+            reports: *mut u64,
+            reports_len: usize,
+            ticket: *mut u8,
+            ticket_len: usize,
+        ) -> u64;
+        pub fn petalchurn_commit(
+            state: *mut u64,
+            state_len: usize,
+            log: *mut u8,
+            log_len: usize,
+            work: *mut u64,
+            work_len: usize,
+            ticket: *const u8,
+            ticket_len: usize,
         ) -> u64;
         pub fn petalchurn_report(
             state: *const u64,
@@ -82,17 +106,25 @@ mod library {
 }
 
 // The macros of the header.
-const VERSION: u64 = 3;
+const VERSION: u64 = 4;
 const RECORD_SIZE: usize = 368;
 const WORK_WORDS: usize = 32;
 const STATE_WORDS: usize = 59;
 const REPORT_WORDS: usize = 7;
 const TRACE_WORDS: usize = 58;
 const TALLY_SIZE: usize = 360;
+const TICKET_SIZE: usize = 376;
 
 const CHECKS: [&str; 8] = [
     "agreement", "overlap", "install", "twice", "half", "generations", "ids", "meta",
 ];
+
+/// What a preview gives: the refusal, the reports that the judge would have, and the ticket by which the record is committed.
+struct Preview {
+    refusal: u64,
+    reports: [u64; 8 * REPORT_WORDS],
+    ticket: [u8; TICKET_SIZE],
+}
 
 /// A judge with the buffers that it is lent. A slice's pointer and length meet what the header asks of a buffer, and `&mut` that
 /// no other buffer overlaps one that is written, so each call below is safe.
@@ -134,6 +166,43 @@ impl Judge {
                 self.work.len(),
                 rec.as_ptr(),
                 rec.len(),
+            )
+        }
+    }
+
+    /// Alters nothing of the judge: `&self` is enough.
+    fn preview(&self, rec: &[u8]) -> Preview {
+        let mut preview = Preview { refusal: 0, reports: [0; 8 * REPORT_WORDS], ticket: [0; TICKET_SIZE] };
+        preview.refusal = unsafe {
+            library::petalchurn_preview(
+                self.state.as_ptr(),
+                self.state.len(),
+                self.log.as_ptr(),
+                self.log.len(),
+                self.work.as_ptr(),
+                self.work.len(),
+                rec.as_ptr(),
+                rec.len(),
+                preview.reports.as_mut_ptr(),
+                preview.reports.len(),
+                preview.ticket.as_mut_ptr(),
+                preview.ticket.len(),
+            )
+        };
+        preview
+    }
+
+    fn commit(&mut self, ticket: &[u8]) -> u64 {
+        unsafe {
+            library::petalchurn_commit(
+                self.state.as_mut_ptr(),
+                self.state.len(),
+                self.log.as_mut_ptr(),
+                self.log.len(),
+                self.work.as_mut_ptr(),
+                self.work.len(),
+                ticket.as_ptr(),
+                ticket.len(),
             )
         }
     }
@@ -231,6 +300,33 @@ fn print_report(check: &str, report: &[u64]) {
     }
 }
 
+/// What a previewed record would do, for an operator: each report that would change, and the one that still stands.
+fn show_changes(judge: &Judge, preview: &Preview) {
+    for (place, then) in preview.reports.chunks(REPORT_WORDS).enumerate() {
+        let mut now = [0; REPORT_WORDS];
+        judge.report(place as u64 + 1, &mut now);
+        if then != now {
+            print!("would be: ");
+            print_report(CHECKS[place], then);
+            print!("still is: ");
+            print_report(CHECKS[place], &now);
+        }
+    }
+}
+
+/// A record shown and then committed by its ticket, which serves once: after that the count is another. A refused preview gives a
+/// ticket of zeros, which names no record.
+fn show_then_commit(judge: &mut Judge, rec: &[u8]) {
+    let preview = judge.preview(rec);
+    println!("preview {}", preview.refusal);
+    show_changes(judge, &preview);
+    println!("commit {}", judge.commit(&preview.ticket));
+    println!("commit of the same ticket {}", judge.commit(&preview.ticket));
+    let torn = judge.preview(&rec[..RECORD_SIZE - 1]);
+    let given = if torn.ticket == [0; TICKET_SIZE] { "a ticket of zeros" } else { "a ticket" };
+    println!("preview of 367 bytes {}, {given}", torn.refusal);
+}
+
 /// The count at a place of a record of a tally: of a check in printing order, or of the totals, the last.
 fn counted(tally: &[u8], record: usize, place: usize) -> u32 {
     let at = 40 * record + 4 * place;
@@ -257,7 +353,7 @@ fn main() {
     };
     println!("open 0");
     println!("push {}", judge.push(&first));
-    println!("push {}", judge.push(&second));
+    show_then_commit(&mut judge, &second);
     println!("push of 367 bytes {}", judge.push(&first[..RECORD_SIZE - 1]));
 
     let mut report = [0; REPORT_WORDS];

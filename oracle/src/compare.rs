@@ -70,6 +70,9 @@ impl Comparer {
             if (theirs, ours) != (0, 0) {
                 return Err(format!("record {}: refused {theirs}, {ours}", place + 1));
             }
+            if let Some(words) = judge.amiss() {
+                return Err(format!("record {}: {words}", place + 1));
+            }
             same_reports(oracle.eight(), judge.eight(), place + 1)?;
             if asking == Asking::EachRecord || place + 1 == records.len() {
                 self.same_answers(oracle, judge, records, place + 1)?;

@@ -11,6 +11,10 @@ pub trait Judging: Lookups {
     fn take(&mut self, bytes: &[u8]) -> u8;
     /// The eight reports in printing order.
     fn eight(&self) -> &Reports;
+    /// What is wrong with it beside refusals, reports and look-ups, in words.
+    fn amiss(&self) -> Option<&str> {
+        None
+    }
 }
 
 impl Judging for Oracle {

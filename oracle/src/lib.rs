@@ -19,6 +19,7 @@ pub mod lookups;
 pub mod minimise;
 pub mod misread;
 pub mod model;
+pub mod preview;
 pub mod profiles;
 pub mod random;
 pub mod report;

@@ -4,6 +4,8 @@ use oracle::judging::Judging;
 use oracle::lookups::Lookups;
 use oracle::report::{Report, Reports};
 
+use crate::buffers::Buffers;
+
 const STATE: usize = 59;
 const WORDS: usize = 32;
 const RECORD: usize = 368;
@@ -23,16 +25,6 @@ unsafe extern "C" {
         work_len: usize,
         state: *mut u64,
         state_len: usize,
-    ) -> u64;
-    fn petalchurn_push(
-        state: *mut u64,
-        state_len: usize,
-        log: *mut u8,
-        log_len: usize,
-        work: *mut u64,
-        work_len: usize,
-        record: *const u8,
-        record_len: usize,
     ) -> u64;
     fn petalchurn_report(
         state: *const u64,
@@ -110,10 +102,9 @@ unsafe extern "C" {
 }
 
 /// A judge with its buffers.
+#[derive(Clone)]
 pub struct Host {
-    pub log: Vec<u8>,
-    pub work: Vec<u64>,
-    pub state: [u64; STATE],
+    pub buffers: Buffers,
     reports: Reports,
 }
 
@@ -129,47 +120,37 @@ impl Host {
 
     /// The refusal of an opening over so many bytes and words, and what it gives.
     pub fn lent(tenant: u64, bytes: usize, words: usize) -> (u64, Host) {
-        let mut host = Host {
+        let mut buffers = Buffers {
             log: vec![BEFORE; bytes],
             work: vec![u64::from(BEFORE); words],
-            state: [u64::MAX; STATE],
-            reports: Reports::default(),
+            state: vec![u64::MAX; STATE],
         };
         let refusal = unsafe {
             petalchurn_open(
                 tenant,
-                host.log.as_ptr(),
-                host.log.len(),
-                host.work.as_mut_ptr(),
-                host.work.len(),
-                host.state.as_mut_ptr(),
+                buffers.log.as_ptr(),
+                buffers.log.len(),
+                buffers.work.as_mut_ptr(),
+                buffers.work.len(),
+                buffers.state.as_mut_ptr(),
                 STATE,
             )
         };
-        (refusal, host)
+        (refusal, Host { buffers, reports: Reports::default() })
     }
 
-    /// The refusal of a push.
-    pub fn push(&mut self, bytes: &[u8]) -> u64 {
-        unsafe {
-            petalchurn_push(
-                self.state.as_mut_ptr(),
-                STATE,
-                self.log.as_mut_ptr(),
-                self.log.len(),
-                self.work.as_mut_ptr(),
-                self.work.len(),
-                bytes.as_ptr(),
-                bytes.len(),
-            )
+    /// Asks all eight reports.
+    pub fn ask(&mut self) {
+        for check in 1..=8 {
+            self.reports[check - 1] = self.report(check as u64);
         }
     }
 
     fn report(&self, check: u64) -> Report {
         let mut out = [0u64; 7];
-        let refusal = unsafe {
-            petalchurn_report(self.state.as_ptr(), STATE, check, out.as_mut_ptr(), out.len())
-        };
+        let state = self.buffers.state.as_ptr();
+        let refusal =
+            unsafe { petalchurn_report(state, STATE, check, out.as_mut_ptr(), out.len()) };
         assert_eq!(refusal, 0, "report {check}");
         report_in(&out)
     }
@@ -178,8 +159,8 @@ impl Host {
         &self,
         call: impl FnOnce(*const u64, usize, *const u8, usize, *const u64, usize) -> Answer,
     ) -> u64 {
-        let (log, work) = (&self.log, &self.work);
-        let state = self.state.as_ptr();
+        let Buffers { state, log, work } = &self.buffers;
+        let state = state.as_ptr();
         let answer = call(state, STATE, log.as_ptr(), log.len(), work.as_ptr(), work.len());
         assert_eq!(answer.refusal, 0, "a look-up");
         answer.value
@@ -254,7 +235,7 @@ impl Lookups for Host {
     }
 
     fn holders_of(&self, id: u64) -> Vec<u64> {
-        let mut out = vec![0u64; self.log.len() / RECORD];
+        let mut out = vec![0u64; self.buffers.log.len() / RECORD];
         let (list, room) = (out.as_mut_ptr(), out.len());
         let count = self.value(|s, n, l, m, w, k| unsafe {
             petalchurn_holders_of(s, n, l, m, w, k, id, list, room)
@@ -264,7 +245,7 @@ impl Lookups for Host {
     }
 
     fn blocks(&self) -> Vec<[u64; 3]> {
-        let mut out = vec![0u64; 3 * (self.log.len() / RECORD)];
+        let mut out = vec![0u64; 3 * (self.buffers.log.len() / RECORD)];
         let (list, room) = (out.as_mut_ptr(), out.len());
         let count = self
             .value(|s, n, l, m, w, k| unsafe { petalchurn_blocks(s, n, l, m, w, k, list, room) });
@@ -275,10 +256,8 @@ impl Lookups for Host {
 
 impl Judging for Host {
     fn take(&mut self, bytes: &[u8]) -> u8 {
-        let refusal = self.push(bytes) as u8;
-        for check in 1..=8 {
-            self.reports[check - 1] = self.report(check as u64);
-        }
+        let refusal = self.buffers.push(bytes) as u8;
+        self.ask();
         refusal
     }
 

@@ -5,29 +5,38 @@
 //!   against full [TRACES_PER_PROFILE]     the same with 1,000 to 4,096 records
 //!   against tails [TRACES_PER_PROFILE]    numbered traces whose keys differ at their ends alone
 //!   against exhaustive                    all short traces over small alphabets
-//!   against form [SEED]                   damaged records: the refusal, and nothing moved
+//!   against previews [TRACES_PER_PROFILE [SEED]]
+//!                                         previews of records that are not taken, at every point
+//!   against form [SEED]                   pushes, previews and commits with things wrong
 //!   against tally [ENTRIES [SEED]]        a campaign, and entries of every sort into a tally
 //!
 //! All reports after each record, every look-up, and the whole trace in one
-//! call; then the judge is entered into its row's tally. A disagreement is
-//! shrunk, printed, and ends the run with status 1.
+//! call; then the judge is entered into its row's tally. Every record is
+//! previewed before it is taken, another one beside it, and the taking is by
+//! turns a push and a commit: console.rs. A disagreement is shrunk, printed, and
+//! ends the run with status 1.
 
+mod buffers;
+mod calls;
+mod console;
 mod host;
+mod previews;
 mod tallies;
 
 use std::process::exit;
 use std::time::Instant;
 
+use console::Console;
 use host::{Host, report_in, whole};
 use oracle::compare::{Asking, Comparer, numbered};
 use oracle::counts::{Counts, header};
-use oracle::damage::every_case;
 use oracle::exhaustive::alphabets;
 use oracle::generate::{Trace, names, trace};
 use oracle::minimise::minimise;
 use oracle::report::Reports;
 use oracle::text::{readable, record_line};
 use oracle::wire::Record;
+use previews::Neighbours;
 use tallies::Campaign;
 
 /// A capacity for a trace: just enough, so that buckets are shared, or roomy.
@@ -36,16 +45,28 @@ fn capacity(records: usize, number: u64) -> usize {
     [least, (least + 7).min(4096), 96.max(least)][(number % 3) as usize]
 }
 
-/// The oracle against the judge, pushed to and at once: the reports, and the judge pushed to.
+/// What both sides came to: the reports, the judge, and its previews by refusal.
+type Came = (Reports, Host, [u64; 7]);
+
+/// The oracle against the judge, record by record and at once.
 fn both(
     comparer: &mut Comparer,
     tenant: u64,
     records: &[Record],
     asking: Asking,
-    room: usize,
-) -> Result<(Reports, Host), String> {
-    let mut judge = Host::open(tenant, room);
-    let reports = comparer.against(&mut judge, tenant, records, asking)?;
+    number: u64,
+) -> Result<Came, String> {
+    let room = capacity(records.len(), number);
+    let others = Neighbours { records, number };
+    let mut console = Console::open(tenant, room, number / 3, others);
+    let reports = comparer.against(&mut console, tenant, records, asking)?;
+    let (judge, previews) = console.finish()?;
+    at_once(tenant, room, records, &reports)?;
+    Ok((reports, judge, previews))
+}
+
+/// The whole trace in one call gives the same reports.
+fn at_once(tenant: u64, room: usize, records: &[Record], reports: &Reports) -> Result<(), String> {
     let bytes: Vec<u8> = records.iter().flat_map(|record| record.encode()).collect();
     let (refusal, words) = whole(tenant, room, &bytes);
     if (refusal, words[0], words[1]) != (0, records.len() as u64, 0) {
@@ -56,24 +77,21 @@ fn both(
             return Err(format!("at once: check {} differs", check + 1));
         }
     }
-    Ok((reports, judge))
+    Ok(())
 }
 
+/// Runs records of a trace through both sides.
+type Run<'a> = &'a mut dyn FnMut(&[Record]) -> Result<Reports, String>;
+
 /// Prints the smallest trace that still disagrees, and ends the run.
-fn disagree(comparer: &mut Comparer, trace: &Trace, number: u64, first: &str) -> ! {
+fn disagree(trace: &Trace, number: u64, first: &str, run: Run) -> ! {
     println!("disagreement in {} number {number}, tenant {}", trace.profile, trace.tenant);
     println!("as found: {first}");
-    let mut differs = |records: &[Record]| {
-        let room = capacity(records.len(), number);
-        both(comparer, trace.tenant, records, Asking::EachRecord, room).is_err()
-    };
-    let least = minimise(&trace.records, &mut differs);
+    let least = minimise(&trace.records, &mut |records: &[Record]| run(records).is_err());
     for (place, record) in least.iter().enumerate() {
         println!("{}: {}\n   {}", place + 1, readable(record), record_line(record));
     }
-    let room = capacity(least.len(), number);
-    let found = both(comparer, trace.tenant, &least, Asking::EachRecord, room);
-    println!("smallest: {:?}", found.map(|(reports, _)| reports));
+    println!("smallest: {:?}", run(&least));
     exit(1)
 }
 
@@ -82,18 +100,37 @@ fn disagree(comparer: &mut Comparer, trace: &Trace, number: u64, first: &str) ->
 struct Row {
     counts: Counts,
     campaign: Campaign,
+    previews: [u64; 7],
+}
+
+/// All rows together.
+#[derive(Default)]
+struct All {
+    counts: Counts,
+    previews: [u64; 7],
+}
+
+impl All {
+    fn join(&mut self, name: &str, row: &Row) {
+        println!("{}", row.counts.row(name));
+        self.counts.join(&row.counts);
+        previews::add(&mut self.previews, row.previews);
+    }
 }
 
 /// One trace through both, counted and entered. Every fourth is asked after each record.
 fn count(comparer: &mut Comparer, row: &mut Row, trace: &Trace, number: u64) {
     let asking = if number % 4 == 0 { Asking::EachRecord } else { Asking::AtTheEnd };
-    let room = capacity(trace.records.len(), number);
-    match both(comparer, trace.tenant, &trace.records, asking, room) {
-        Ok((reports, judge)) => {
+    match both(comparer, trace.tenant, &trace.records, asking, number) {
+        Ok((reports, judge, previews)) => {
             row.counts.add(trace, &reports);
+            previews::add(&mut row.previews, previews);
             enter(&mut row.campaign, trace, &reports, &judge);
         }
-        Err(words) => disagree(comparer, trace, number, &words),
+        Err(words) => disagree(trace, number, &words, &mut |records| {
+            let came = both(comparer, trace.tenant, records, Asking::EachRecord, number);
+            came.map(|(reports, ..)| reports)
+        }),
     }
 }
 
@@ -106,16 +143,17 @@ fn enter(campaign: &mut Campaign, trace: &Trace, reports: &Reports, judge: &Host
 }
 
 /// The last lines of a table.
-fn end(all: &Counts, comparer: &Comparer) {
-    println!("{}", all.row("all"));
+fn end(all: &All, comparer: &Comparer) {
+    println!("{}", all.counts.row("all"));
     println!("\nlook-ups compared: {}", comparer.asked);
+    println!("previews, refusals 0 to 6: {:?}", all.previews);
     println!("every judge entered into its row's tally: all bytes as counted");
 }
 
 /// Traces of every profile, each drawn by its number.
 fn profiles(each: u64, draw: impl Fn(&'static str, u64) -> (Trace, u64)) {
     let mut comparer = Comparer::default();
-    let mut all = Counts::default();
+    let mut all = All::default();
     println!("{}", header());
     for profile in names() {
         let mut row = Row::default();
@@ -123,8 +161,7 @@ fn profiles(each: u64, draw: impl Fn(&'static str, u64) -> (Trace, u64)) {
             let (trace, number) = draw(profile, number);
             count(&mut comparer, &mut row, &trace, number);
         }
-        println!("{}", row.counts.row(profile));
-        all.join(&row.counts);
+        all.join(profile, &row);
     }
     end(&all, &comparer);
 }
@@ -148,7 +185,7 @@ fn tails(mut trace: Trace) -> Trace {
 /// All short traces over small alphabets.
 fn exhaustive() {
     let mut comparer = Comparer::default();
-    let mut all = Counts::default();
+    let mut all = All::default();
     println!("{}", header());
     for alphabet in alphabets() {
         let mut row = Row::default();
@@ -157,36 +194,9 @@ fn exhaustive() {
             let trace = Trace { profile: alphabet.name, tenant: 0, records };
             count(&mut comparer, &mut row, &trace, number);
         }
-        println!("{}", row.counts.row(alphabet.name));
-        all.join(&row.counts);
+        all.join(alphabet.name, &row);
     }
     end(&all, &comparer);
-}
-
-/// Every case into a judge that has taken 19 records: where it draws a refusal,
-/// that refusal comes, and every byte and word stays as it stood.
-fn damaged(capacity: usize, seed: u64) {
-    let mut by_refusal = [0u64; 7];
-    let mut judge = Host::open(0, capacity);
-    for record in &trace("cluster", seed, 19, 19).records {
-        assert_eq!(judge.push(&record.encode()), 0, "a sound record");
-    }
-    let stood = (judge.log.clone(), judge.work.clone(), judge.state);
-    let full = if capacity == 19 { 6 } else { 0 };
-    for case in every_case(seed) {
-        let expected = if case.refusal == 0 { full } else { u64::from(case.refusal) };
-        if expected == 0 {
-            continue;
-        }
-        let refusal = judge.push(&case.bytes);
-        by_refusal[refusal as usize] += 1;
-        let moved = judge.log != stood.0 || judge.work != stood.1 || judge.state != stood.2;
-        if refusal != expected || moved {
-            println!("refused {refusal}, not {expected}, moved {moved}: {:?}", case.bytes);
-            exit(1)
-        }
-    }
-    println!("capacity {capacity}, refusals 0 to 6: {by_refusal:?}; seed {seed}");
 }
 
 fn main() {
@@ -196,7 +206,8 @@ fn main() {
     let began = Instant::now();
     match args.first().map(String::as_str) {
         Some("exhaustive") => exhaustive(),
-        Some("form") => [19, 20].into_iter().for_each(|room| damaged(room, number(1, 1))),
+        Some("form") => calls::compare(number(1, 1)),
+        Some("previews") => previews::compare(number(1, 4_000), number(2, 1)),
         Some("tally") => tallies::compare(number(1, 1_000_000), number(2, 1)),
         Some("tails") => profiles(number(1, 4_000), |name, k| (tails(numbered(name, 1, k)), k)),
         // Not multiples of four: look-ups at the end only.

@@ -34,7 +34,7 @@ impl Campaign {
     pub fn enter(&mut self, judge: &Host, reports: &Reports, records: u64) -> Result<(), String> {
         self.counted.add(reports, records);
         self.entries += 1;
-        self.come_to(&judge.state, SIZE, 0)
+        self.come_to(&judge.buffers.state, SIZE, 0)
     }
 
     /// An entry that has to be refused by 5, and leaves everything.
@@ -101,14 +101,14 @@ fn campaign(each: u64, seed: u64) -> Result<Campaign, String> {
 
 /// Entries that are refused: a kind that a check lacks, numbers of no judge, other lengths.
 fn refused(campaign: &mut Campaign, judge: &Host, number: u64) -> Result<(), String> {
-    let check = number as usize % CHECKS.len();
+    let (check, stood) = (number as usize % CHECKS.len(), &judge.buffers.state);
     for (word, value) in [(kind_word(check), 10), (kind_word(check), 256), (0, 4097), (1, 4097)] {
-        let mut state = judge.state;
+        let mut state = stood.clone();
         state[word] = value;
         campaign.refuse(&state, SIZE)?;
     }
-    campaign.refuse(&judge.state[1..], SIZE)?;
-    campaign.refuse(&judge.state, SIZE - 1)
+    campaign.refuse(&stood[1..], SIZE)?;
+    campaign.refuse(stood, SIZE - 1)
 }
 
 /// What a refused opening gives is entered: eight passes, and no records.
