@@ -47,8 +47,8 @@ pub record CommittedBy (j : Judge) (log work : List ℕ) (k : Ticket) (r : Answe
   pub refusal : refusalNumber (r .refusal) ≡ commitRefusal (stateOf j log work) k
   pub leaves : Committed Indexed (stateOf j log work) k (stateOf (r .judge) log′ work′)
 
--- the same by the records of h taken, in a judge of this capacity: the table's refusal, the reports of the records that a push would
--- leave, and the ticket of this record or of zeros
+-- what a preview shows after the records of h, in a judge of this capacity: the table's refusal, the reports of the records that a push
+-- would leave, and the ticket of this record or of zeros
 pub record Shown (o : Opening) (cap : ℕ) (h : History) (bytes : List ℕ) (refusal : ℕ) (reports : List Report) (ticket : Ticket) : Type 0 where
   pub refuses : refusal ≡ refusalAfter cap h bytes
   pub would : reports ≡ reportsOf o (afterCall cap h (push bytes))
