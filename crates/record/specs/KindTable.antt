@@ -72,11 +72,11 @@ installed = record {
   ends = true;
 }
 
--- 12 MetaApplied: range, index, generation; voters; the descriptor's span, then a won one or none
+-- 12 MetaApplied: the flag if it continues an event; range, index, generation; voters; the descriptor's span, then a won one or none
 abbrev pub metaApplied : Shape
 metaApplied = record {
   codes = zeroAlone;
-  flags = zeroAlone;
+  flags = values 0 1;
   voters = values 0 voterLimit;
   spans = values 1 2;
   numbers = numbers true true false true false;

@@ -149,10 +149,10 @@ const INSTALLED: Shape = Shape {
     ends: true,
 };
 
-// 12 MetaApplied.
+// 12 MetaApplied: the flag where it continues an event.
 const META_APPLIED: Shape = Shape {
     codes: ZERO,
-    flags: ZERO,
+    flags: Values { low: 0, high: 1 },
     voters: VOTERS,
     spans: Values { low: 1, high: 2 },
     numbers: A_B_D,

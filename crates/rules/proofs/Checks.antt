@@ -5,15 +5,14 @@ use mathlib.Core.List.{List, [], _∷_, map}
 use Prim.Native.Nat.{ℕ, zero, suc, _<_}
 use native.Mathlib.Omega.{arith}
 use lib.ListN.{length, getD}
-use Rattle.rules.specs.declared.Case.{Case}
 use Rattle.rules.specs.declared.Case.the-variants.{Clear}
 use Rattle.rules.specs.declared.Opening.{Opening}
-use Rattle.rules.specs.declared.Report.{Report}
 use Rattle.rules.specs.History.{History}
-use Rattle.rules.specs.Reports.{passed, Right, reportOf}
+use Rattle.rules.specs.Reports.{passed, Right, Steady}
 use Rattle.rules.specs.Checks.{Rule, atRecord, whole, Check, checks, checkCount, checkAt, caseBy, HasBy, caseAt, reportBy, reportsOf, Every}
 use Rattle.rules.proofs.Booleans.{and-left, and-right}
-use Rattle.rules.proofs.Reports.{whole-right, arises-right, agreement-none}
+use Rattle.rules.proofs.ByEvents.{Lawful, right, whole-lawful, arises-lawful}
+use Rattle.rules.proofs.Concerns.{agreement-none, agreement-steady}
 
 -- the number of checks is the table's
 pub checks-count : length checks ≡ checkCount
@@ -69,11 +68,28 @@ grounded = (
   (λ o. refl, (λ o. refl, (λ o. refl, (λ o. refl, (λ o. refl, (λ o. refl, (λ o. refl, tt))))))),
 )
 
-rule-right : (r : Rule) (o : Opening) → caseBy r o [] ≡ Clear → (h : History) → Right (HasBy r o) (caseBy r o) h (reportOf (caseBy r o) h)
-rule-right (atRecord f) o z h = arises-right (f o) h
-rule-right (whole f) o z h = whole-right (f o) z h
+-- .. and is constant along an event
+abbrev pub SteadyBy : Rule → Opening → Type 0
+SteadyBy (atRecord f) o = Unit {0}
+SteadyBy (whole f) o = Steady (f o)
 
--- of every check of the table
+abbrev pub Steadied : Check → Type 0
+Steadied c = (o : Opening) → SteadyBy (c .rule) o
+
+pub steadied : Every Steadied checks
+steadied = (
+  λ o. agreement-steady,
+  (λ o. tt, (λ o. tt, (λ o. tt, (λ o. tt, (λ o. tt, (λ o. tt, (λ o. tt, tt))))))),
+)
+
+rule-lawful : (r : Rule) (o : Opening) → caseBy r o [] ≡ Clear → SteadyBy r o → Lawful (HasBy r o) (caseBy r o)
+rule-lawful (atRecord f) o z s = arises-lawful (f o)
+rule-lawful (whole f) o z s = whole-lawful (f o) z s
+
+-- so that every check of the table is lawful, and its report right
+pub check-lawful : (o : Opening) (k : ℕ) → k < checkCount → Lawful (HasBy (checkAt k .rule) o) (caseAt o (checkAt k))
+check-lawful o k l = rule-lawful (checkAt k .rule) o (check-at Grounded grounded k l o) (check-at Steadied steadied k l o)
+
 pub check-right : (o : Opening) (h : History) (k : ℕ) → k < checkCount
     → Right (HasBy (checkAt k .rule) o) (caseAt o (checkAt k)) h (reportBy o h (checkAt k))
-check-right o h k l = rule-right (checkAt k .rule) o (check-at Grounded grounded k l o) h
+check-right o h k l = right (check-lawful o k l) h

@@ -4,6 +4,9 @@ use mathlib.Core.Bool.{Bool, true, false, _&&_, _||_}
 use mathlib.Core.List.{List, [], _∷_}
 use mathlib.Core.Option.{Option, none, some}
 use Prim.Native.Nat.{ℕ}
+use native.Mathlib.Omega.{arith}
+use lib.Dec.{eqb}
+use borrow.Author.Tests.{eqb-true, ne-eqb}
 use Rattle.record.specs.Records.{TraceRecord}
 use Rattle.record.specs.declared.named.Node.{Node}
 use Rattle.record.specs.declared.named.Node.the-variants.{Marked, Missing}
@@ -21,10 +24,11 @@ use Rattle.rules.specs.RightHalf.{Registered, Pending, pending, pendingS
 use Rattle.rules.specs.GenerationsRise.{generationsAt}
 use Rattle.rules.specs.IdsUnique.{idsAt}
 use Rattle.rules.specs.MetaNeverGoesBack.{metaAt}
-use Rattle.rules.specs.Reports.{position, atFirst, atLast, reportOf}
+use Rattle.rules.specs.Events.{continues, position}
+use Rattle.rules.specs.Reports.{atFirst, atLast, Steady, reportOf}
 use Rattle.rules.specs.Checks.{Check, checks, checkAt, reportBy, concernedBy, Every}
-use Rattle.rules.proofs.Booleans.{never}
-use Rattle.rules.proofs.Reports.{reportOf-step, reportOf-pass, agreement-none}
+use Rattle.rules.proofs.Booleans.{never, and-left}
+use Rattle.rules.proofs.Reports.{reportOf-step, reportOf-pass}
 
 -- ---- a report that is not moved
 
@@ -76,6 +80,10 @@ module _ (x : TraceRecord) where
 
 -- ---- each check
 
+pub agreement-none : agreement [] ≡ Clear
+unfolding agreement putsDiffer stated told earliestCase
+agreement-none = refl
+
 marked-clear : (f : ℕ → Case) (n : Node) → ((k : ℕ) → f k ≡ Clear) → byMarked f n ≡ Clear
 marked-clear f Missing p = refl
 marked-clear f (Marked n) p = p (n .0)
@@ -125,6 +133,18 @@ module _ (x : TraceRecord) (h : History) where
   meta-clear : isKind 12 x ≡ false → metaAt x h ≡ Clear
   unfolding metaAt
   meta-clear p = rw p
+
+-- ---- along an event
+
+-- a record that continues is of kind 12 and of no other
+continues-kind : (x : TraceRecord) (k : ℕ) → continues x ≡ true → (12 ≡ k → ⊥) → isKind k x ≡ false
+continues-kind x k c d =
+    let q : x .kind ≡ 12 = eqb-true (x .kind) 12 (and-left (isKind 12 x) (eqb (x .flag) 1) c) in
+    ne-eqb (x .kind) k (λ r. d (sym q ∙ r))
+
+-- agreement is constant along an event: a record that continues neither puts nor states
+pub agreement-steady : Steady agreement
+agreement-steady x h c = agreement-same x h (continues-kind x 1 c (λ r. omega arith)) (continues-kind x 2 c (λ r. omega arith))
 
 -- ---- the table
 

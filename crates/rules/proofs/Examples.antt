@@ -1,6 +1,6 @@
 -- The tables of examples: the rules' answer to every row is the row's report. The checker computes all rows of a table at once.
 use mathlib.Core.Path.{_≡_, refl}
-use mathlib.Core.List.{map}
+use mathlib.Core.List.{[], _∷_, map}
 use Rattle.record.specs.Keys.{keyLtb, listEqb}
 use Rattle.record.specs.Numbers.{bigEndianFrom}
 use Rattle.rules.specs.History.{anyOf, those, latestOf, earliestOf, greatestOf, lowestOf, told, latest, firsts}
@@ -14,10 +14,12 @@ use Rattle.rules.specs.GenerationsRise.{writes, generationsAt}
 use Rattle.rules.specs.RightHalf.{serverOf, isRestated, pending, registered, registers, recorded, hasApplied, ownDebt, debtAt, owes, restatedWith}
 use Rattle.rules.specs.RightHalf.{missingFault, nodesOf, registeringFault, halfAt}
 use Rattle.rules.specs.MetaNeverGoesBack.{names, standingName, keyFault, bounds, leastKey, wonFault, metaAt}
+use Rattle.rules.specs.Events.{events, recordsIn}
 use Rattle.rules.specs.Reports.{reportOf}
 use Rattle.rules.specs.Examples.{Row, table, answer}
 use Rattle.rules.specs.MoreExamples.{further}
 use Rattle.rules.specs.RightHalfExamples.{rightHalves}
+use Rattle.rules.specs.EventExamples.{eventRows, beginnings, Continuing, continuing, isStray}
 use Rattle.rules.specs.LookUpExamples.{LookUp, lookUps, lookUp, blockWords}
 
 -- E1 to E10 and document 01's wrong answers
@@ -26,7 +28,7 @@ unfolding keyLtb listEqb bigEndianFrom anyOf those latestOf earliestOf greatestO
     reached roleOf standing stated beforeIn atIn firstAtGenerationIn putFault putsDiffer aheadFault differsFault statementFault agreement before
     firstAtGeneration firstGrants grantEqb blocksOf idsAt holdOf rangesOf lowestMeeting overlapAt groupOf isNamed installAt twiceAt writes generationsAt
     serverOf isRestated pending registered registers recorded hasApplied ownDebt debtAt owes restatedWith missingFault nodesOf registeringFault halfAt names
-    standingName keyFault bounds leastKey wonFault metaAt reportOf
+    standingName keyFault bounds leastKey wonFault metaAt events reportOf
 examples = refl
 
 -- further rows of every check but half
@@ -35,7 +37,7 @@ unfolding keyLtb listEqb bigEndianFrom anyOf those latestOf earliestOf greatestO
     reached roleOf standing stated beforeIn atIn firstAtGenerationIn putFault putsDiffer aheadFault differsFault statementFault agreement before
     firstAtGeneration firstGrants grantEqb blocksOf idsAt holdOf rangesOf lowestMeeting overlapAt groupOf isNamed installAt twiceAt writes generationsAt
     serverOf isRestated pending registered registers recorded hasApplied ownDebt debtAt owes restatedWith missingFault nodesOf registeringFault halfAt names
-    standingName keyFault bounds leastKey wonFault metaAt reportOf
+    standingName keyFault bounds leastKey wonFault metaAt events reportOf
 more-examples = refl
 
 -- further rows of half
@@ -44,8 +46,25 @@ unfolding keyLtb listEqb bigEndianFrom anyOf those latestOf earliestOf greatestO
     reached roleOf standing stated beforeIn atIn firstAtGenerationIn putFault putsDiffer aheadFault differsFault statementFault agreement before
     firstAtGeneration firstGrants grantEqb blocksOf idsAt holdOf rangesOf lowestMeeting overlapAt groupOf isNamed installAt twiceAt writes generationsAt
     serverOf isRestated pending registered registers recorded hasApplied ownDebt debtAt owes restatedWith missingFault nodesOf registeringFault halfAt names
-    standingName keyFault bounds leastKey wonFault metaAt reportOf
+    standingName keyFault bounds leastKey wonFault metaAt events reportOf
 right-half-examples = refl
+
+-- rows with events of several records
+pub event-examples : map answer eventRows ≡ map (λ (r : Row). r .report) eventRows
+unfolding keyLtb listEqb bigEndianFrom anyOf those latestOf earliestOf greatestOf lowestOf told latest firsts earliestCase firstCase heldBy heldEqb applied
+    reached roleOf standing stated beforeIn atIn firstAtGenerationIn putFault putsDiffer aheadFault differsFault statementFault agreement before
+    firstAtGeneration firstGrants grantEqb blocksOf idsAt holdOf rangesOf lowestMeeting overlapAt groupOf isNamed installAt twiceAt writes generationsAt
+    serverOf isRestated pending registered registers recorded hasApplied ownDebt debtAt owes restatedWith missingFault nodesOf registeringFault halfAt names
+    standingName keyFault bounds leastKey wonFault metaAt events reportOf
+event-examples = refl
+
+-- beginnings by events, and which records may continue
+pub beginnings-are : beginnings ≡ 4 ∷ 0 ∷ 1 ∷ 4 ∷ 5 ∷ 7 ∷ []
+unfolding events recordsIn
+beginnings-are = refl
+
+pub strays : map isStray continuing ≡ map (λ (q : Continuing). q .refused) continuing
+strays = refl
 
 -- the look-ups
 pub look-ups : map lookUp lookUps ≡ map (λ (r : LookUp). r .answer) lookUps

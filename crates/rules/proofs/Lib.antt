@@ -12,11 +12,13 @@ pub mod Once
 pub mod CaseLists
 -- reports
 pub mod Beginnings
+pub mod Events
 pub mod Reports
+pub mod ByEvents
 -- the table of checks
-pub mod Checks
 pub mod CaseKinds
 pub mod Concerns
+pub mod Checks
 -- descriptors
 pub mod Same
 pub mod Standing

@@ -1,8 +1,9 @@
--- The report of a history is right, each way, for any check; one more record steps it; after a fault it stays.
+-- The report of a history is right by records, each way, for any check, which is the stage before right by events; one more record
+-- steps it; after a fault it stays.
 use mathlib.Core.Path.{_≡_, refl, sym, ap, _∙_, subst}
 use mathlib.Core.Bool.{true, false}
 use mathlib.Core.List.{List, [], _∷_, _++_}
-use mathlib.Core.Logic.{_⊎_, inl, ⊎-elim}
+use mathlib.Core.Logic.{_⊎_, ⊎-elim}
 use Prim.Native.Nat.{ℕ, _≤_, _<_}
 use native.Mathlib.Omega.{arith}
 use native.Mathlib.Decide.{decLe}
@@ -14,10 +15,10 @@ use Rattle.rules.specs.declared.Evidence.{Evidence}
 use Rattle.rules.specs.declared.Report.{Report}
 use Rattle.rules.specs.declared.Verdict.{Verdict}
 use Rattle.rules.specs.declared.Verdict.the-variants.{Pass, Faulted}
-use Rattle.rules.specs.History.{History, told}
-use Rattle.rules.specs.Cases.{isFault, earliestCase, evidence}
-use Rattle.rules.specs.Descriptors.{stated, putsDiffer, agreement}
-use Rattle.rules.specs.Reports.{first, position, AtRecord, atLast, HasWhole, Arises, FirstFault, passed, faulted, Right, atFirst, reportOf}
+use Rattle.rules.specs.History.{History}
+use Rattle.rules.specs.Cases.{isFault}
+use Rattle.rules.specs.Events.{first, position}
+use Rattle.rules.specs.Reports.{passed, faulted, atFirst, reportOf}
 use Rattle.rules.proofs.Booleans.{never}
 use Rattle.rules.proofs.Beginnings.{first-later, first-all, first-nil}
 use Rattle.rules.proofs.CaseLists.{clear-of}
@@ -86,23 +87,38 @@ module _ (f : History → Case) where
       let s : reportOf f (more ++ h) ≡ reportOf f h = reportOf-stays more h kind v in
       reportOf-kept x (more ++ h) kind (ap (λ (r : Report). r .verdict) s ∙ v) ∙ s
 
--- ---- the first fault is one, whatever having the fault means
+-- ---- the first fault by records, whatever having the fault means
+
+-- the first n records have it, no fewer do, and it is the case c
+pub record FirstRecord (has : History → Type 0) (caseAt : History → Case) (h : History) (n : ℕ) (c : Case) : Type 0 where
+  pub within : n ≤ length h
+  pub here : has (first n h)
+  pub shorter : (m : ℕ) → m < n → has (first m h) → ⊥
+  pub case : caseAt (first n h) ≡ c
+
+-- a report that is right by records, each way: its position is that of the first faulty record
+pub record RightByRecords (has : History → Type 0) (caseAt : History → Case) (h : History) (r : Report) : Type 0 where
+  pub fault-only : (n kind : ℕ) (e : Evidence) → r ≡ faulted n kind e
+      → (m : ℕ) × (n ≡ position (first m h)) × FirstRecord has caseAt h m (Fault kind e)
+  pub fault-if : (n kind : ℕ) (e : Evidence) → FirstRecord has caseAt h n (Fault kind e) → r ≡ faulted (position (first n h)) kind e
+  pub pass-only : r ≡ passed → (n : ℕ) → n ≤ length h → has (first n h) → ⊥
+  pub pass-if : ((n : ℕ) → n ≤ length h → has (first n h) → ⊥) → r ≡ passed
 
 module _ (has : History → Type 0) (caseAt : History → Case) where
-  first-place : (h : History) {n m : ℕ} {c d : Case} → FirstFault has caseAt h n c → FirstFault has caseAt h m d → n ≡ m
+  first-place : (h : History) {n m : ℕ} {c d : Case} → FirstRecord has caseAt h n c → FirstRecord has caseAt h m d → n ≡ m
   first-place h {n} {m} a b =
       let x : n < m → ⊥ = λ l. b .shorter n l (a .here) in
       let y : m < n → ⊥ = λ l. a .shorter m l (b .here) in
       omega arith
 
-  first-report : (h : History) {n m : ℕ} {c d : Case} → FirstFault has caseAt h n c → FirstFault has caseAt h m d
-      → asReport n c ≡ asReport m d
+  first-report : (h : History) {n m : ℕ} {c d : Case} → FirstRecord has caseAt h n c → FirstRecord has caseAt h m d
+      → asReport (position (first n h)) c ≡ asReport (position (first m h)) d
   first-report h {n} {m} {c} {d} a b =
       let p : n ≡ m = first-place h a b in
       let q : c ≡ d = sym (a .case) ∙ ap (λ (k : ℕ). caseAt (first k h)) p ∙ b .case in
-      λ i. asReport (p i) (q i)
+      λ i. asReport (position (first (p i) h)) (q i)
 
-  first-kept : (x : TraceRecord) (h : History) {n : ℕ} {c : Case} → FirstFault has caseAt h n c → FirstFault has caseAt (x ∷ h) n c
+  first-kept : (x : TraceRecord) (h : History) {n : ℕ} {c : Case} → FirstRecord has caseAt h n c → FirstRecord has caseAt (x ∷ h) n c
   first-kept x h {n} a =
       let w = a .within in
       let s : first n (x ∷ h) ≡ first n h = first-later n x h w in
@@ -120,16 +136,17 @@ module _ (has : History → Type 0) (caseAt : History → Case) where
   -- a report as it has to be: a pass and no beginning with the fault, or the first fault
   pub data Judged (h : History) (r : Report) : Type 0 where
     clean : r ≡ passed → Free h → Judged h r
-    faulty : (n kind : ℕ) (e : Evidence) → r ≡ faulted n kind e → FirstFault has caseAt h n (Fault kind e) → Judged h r
+    faulty : (n kind : ℕ) (e : Evidence) → r ≡ faulted (position (first n h)) kind e → FirstRecord has caseAt h n (Fault kind e) → Judged h r
 
-  is-first : (h : History) (r : Report) (n kind : ℕ) (e : Evidence) → r ≡ faulted n kind e → Judged h r → FirstFault has caseAt h n (Fault kind e)
+  is-first : (h : History) (r : Report) (n kind : ℕ) (e : Evidence) → r ≡ faulted n kind e → Judged h r
+      → (m : ℕ) × (n ≡ position (first m h)) × FirstRecord has caseAt h m (Fault kind e)
   is-first h r n kind e q (clean p none) = passed-or n kind e (sym p ∙ q)
   is-first h r n kind e q (faulty m k d p x) =
-      let t : faulted m k d ≡ faulted n kind e = sym p ∙ q in
-      subst (λ (z : Report). FirstFault has caseAt h (z .at) (caseBy (z .verdict) (z .evidence))) t x
+      let t : faulted (position (first m h)) k d ≡ faulted n kind e = sym p ∙ q in
+      (m, sym (ap (λ (z : Report). z .at) t), subst (λ (z : Report). FirstRecord has caseAt h m (caseBy (z .verdict) (z .evidence))) t x)
 
-  is-fault : (h : History) (r : Report) (n kind : ℕ) (e : Evidence) → FirstFault has caseAt h n (Fault kind e) → Judged h r
-      → r ≡ faulted n kind e
+  is-fault : (h : History) (r : Report) (n kind : ℕ) (e : Evidence) → FirstRecord has caseAt h n (Fault kind e) → Judged h r
+      → r ≡ faulted (position (first n h)) kind e
   is-fault h r n kind e a (clean p none) = absurd (none n (a .within) (a .here))
   is-fault h r n kind e a (faulty m k d p x) = p ∙ first-report h x a
 
@@ -141,7 +158,7 @@ module _ (has : History → Type 0) (caseAt : History → Case) where
   is-pass h r none (clean p none′) = p
   is-pass h r none (faulty m k d p x) = absurd (none m (x .within) (x .here))
 
-  pub right-of : (h : History) (r : Report) → Judged h r → Right has caseAt h r
+  pub right-of : (h : History) (r : Report) → Judged h r → RightByRecords has caseAt h r
   right-of h r s = record {
     fault-only = λ n kind e q. is-first h r n kind e q s;
     fault-if = λ n kind e a. is-fault h r n kind e a s;
@@ -170,7 +187,7 @@ module _ (has : History → Type 0) (caseAt : History → Case) where
     judged-clean x h Clear q p none = clean (reportOf-clear caseAt x h p q) (free-more x h q none)
     judged-clean x h (Fault kind e) q p none =
         faulty (length (x ∷ h)) kind e
-        (reportOf-fault caseAt x h kind e p q)
+        (reportOf-fault caseAt x h kind e p q ∙ ap (λ (g : History). faulted (position g) kind e) (sym (first-all (x ∷ h))))
         (record {
           within = omega arith;
           here = subst has (sym (first-all (x ∷ h))) (last (x ∷ h) (ap isFault q));
@@ -183,36 +200,12 @@ module _ (has : History → Type 0) (caseAt : History → Case) where
     judged (x ∷ h) = elim (judged h) [
       | clean p none ↦ judged-clean x h (caseAt (x ∷ h)) refl p none
       | faulty n kind e p a ↦
-          faulty n kind e (reportOf-kept caseAt x h kind (ap (λ (r : Report). r .verdict) p) ∙ p) (first-kept x h a)
+          faulty n kind e
+          (reportOf-kept caseAt x h kind (ap (λ (r : Report). r .verdict) p)
+          ∙ p
+          ∙ ap (λ (g : History). faulted (position g) kind e) (sym (first-later n x h (a .within))))
+          (first-kept x h a)
     ]
 
-    pub right : (h : History) → Right has caseAt h (reportOf caseAt h)
-    right h = right-of h (reportOf caseAt h) (judged h)
-
--- a fault that a beginning has as a whole: agreement's
-pub whole-right : (f : History → Case) → f [] ≡ Clear → (h : History) → Right (HasWhole f) f h (reportOf f h)
-whole-right f e = right (HasWhole f) f (λ y. never y (ap isFault e)) (λ h y. y) (λ x h y. inl y)
-
-pub agreement-none : agreement [] ≡ Clear
-unfolding agreement putsDiffer stated told earliestCase
-agreement-none = refl
-
-pub agreement-right : (h : History) → Right (HasWhole agreement) agreement h (reportOf agreement h)
-agreement-right = whole-right agreement agreement-none
-
--- a case that arises at one of the beginning's records: the other checks'
-arises-none : (f : AtRecord) → Arises f [] → ⊥
-unfolding Arises
-arises-none f y = y
-
-arises-last : (f : AtRecord) (h : History) → isFault (atLast f h) ≡ true → Arises f h
-unfolding Arises
-arises-last f [] y = never y refl
-arises-last f (x ∷ h) y = inl y
-
-arises-only : (f : AtRecord) (x : TraceRecord) (h : History) → Arises f (x ∷ h) → (isFault (f x h) ≡ true) ⊎ Arises f h
-unfolding Arises
-arises-only f x h y = y
-
-pub arises-right : (f : AtRecord) (h : History) → Right (Arises f) (atLast f) h (reportOf (atLast f) h)
-arises-right f = right (Arises f) (atLast f) (arises-none f) (arises-last f) (arises-only f)
+    pub right-by-records : (h : History) → RightByRecords has caseAt h (reportOf caseAt h)
+    right-by-records h = right-of h (reportOf caseAt h) (judged h)

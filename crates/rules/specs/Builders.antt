@@ -177,3 +177,11 @@ metaFor range index generation voters s t won = record-of 12 unmarked 0 0 range 
 -- the same without voters
 abbrev pub metaApplied : ℕ → ℕ → ℕ → Key → Key → List Span → TraceRecord
 metaApplied range index generation s t won = metaFor range index generation [] s t won
+
+-- the same record with flag 1: of kind 12 it continues the event before it
+abbrev pub flagged : TraceRecord → TraceRecord
+flagged x = record-of (x .kind) (x .node) (x .code) 1 (x .a) (x .b) (x .c) (x .d) (x .e) (x .voters) (x .spans)
+
+-- the same record marked with a node
+abbrev pub marked : ℕ → TraceRecord → TraceRecord
+marked n x = record-of (x .kind) (by n) (x .code) (x .flag) (x .a) (x .b) (x .c) (x .d) (x .e) (x .voters) (x .spans)

@@ -1,5 +1,5 @@
 -- The tables' rows, and document 01's examples E1 to E10 with its wrong answers: a trace in the order of time, the check, its report.
--- MoreExamples and RightHalfExamples have further rows, LookUpExamples the look-ups'.
+-- MoreExamples, RightHalfExamples and EventExamples have further rows, LookUpExamples the look-ups'.
 use mathlib.Core.List.{List, [], _∷_, _++_, reverse}
 use Prim.Native.Nat.{ℕ}
 use lib.ListN.{getD}
@@ -42,7 +42,7 @@ row check trace report = record { tenant = 0; trace = trace; check = check; repo
 abbrev pub rowUnder : ℕ → Check → List TraceRecord → Report → Row
 rowUnder tenant check trace report = record { tenant = tenant; trace = trace; check = check; report = report }
 
--- a fault at record n: its kind and evidence
+-- a fault at event n: its kind and evidence
 abbrev pub faultAt : ℕ → ℕ → List ℕ → Report
 faultAt n kind ns = faulted n kind (evidence ns)
 

@@ -8,10 +8,12 @@ pub mod OneOwnerPerKey
 pub mod GenerationsRise
 pub mod RightHalf
 pub mod MetaNeverGoesBack
+pub mod Events
 pub mod Reports
 pub mod Checks
 pub mod Builders
 pub mod Examples
 pub mod MoreExamples
 pub mod RightHalfExamples
+pub mod EventExamples
 pub mod LookUpExamples

@@ -1,0 +1,2 @@
+-- What is proved of events as numbers.
+pub mod Numbers

@@ -1,0 +1,2 @@
+-- What the code of events keeps as numbers.
+pub mod Numbers
