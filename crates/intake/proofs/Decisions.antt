@@ -1,62 +1,84 @@
 -- What is decided of a record, refusal by refusal, and what a record that is not refused has. Assumes nothing.
 use mathlib.Core.Path.{_≡_, refl, sym, ap, _∙_}
 use mathlib.Core.Bool.{Bool, true, false, cond}
-use mathlib.Core.List.{List, [], _∷_}
+use mathlib.Core.List.{List}
+use mathlib.Core.Logic.{inl, inr}
 use Prim.Native.Nat.{ℕ, zero, suc, _+_, _≤_, _<_}
 use native.Mathlib.Omega.{arith}
 use native.Mathlib.Decide.{ℕ-discrete}
 use lib.ListN.{length}
 use lib.Dec.{eqb}
-use borrow.Author.Tests.{eqb-true, eqb-false, eq-eqb, ne-eqb}
+use borrow.Author.Tests.{eqb-true, eqb-false, ne-eqb}
 use Rattle.record.specs.declared.kind.Shaped.{Shaped}
 use Rattle.record.specs.declared.kind.Shaped.the-variants.{Known, Unknown}
 use Rattle.record.specs.Numbers.{byteAt}
+use Rattle.record.specs.Records.{decode}
 use Rattle.record.specs.KindTable.{shapeOf}
 use Rattle.record.specs.Form.{valuesFit, unusedClear, shapedRefusal, refusalOf}
 use Rattle.record.proofs.Shapes.{past}
 use Rattle.record.proofs.Sound.{wrong-size, by-shape}
-use Rattle.rules.proofs.Booleans.{never}
+use Rattle.rules.specs.History.{History}
+use Rattle.rules.specs.Events.{stray}
 use Rattle.history.specs.Bounds.{Bounds}
-use Rattle.intake.specs.Refusals.{suitsBy, orFull, pushRefusalBy, concernedBits, decided, soundBy}
+use Rattle.history.specs.Logs.{hist}
+use Rattle.history.proofs.Logs.{hist-length}
+use Rattle.intake.specs.Refusals.{suitsBy, orNext, refusalAfter, pushRefusalBy, PushNumber, concernedBits, decided, soundBy}
 use Rattle.intake.proofs.Suiting.{Suiting, suiting, bounded}
 use Rattle.intake.proofs.Bits.{bits-small}
 
 -- ---- each way to decide
 
-module _ (cap count logs words : ℕ) (bytes : List ℕ) (kind : ℕ) where
-  pub decided-unfit : suitsBy cap count logs words ≡ false → 261 ≡ decided (pushRefusalBy cap count logs words bytes) kind
-  decided-unfit e = sym (ap (λ (b : Bool). decided (cond b (orFull (refusalOf bytes) cap count) 5) kind) e)
+module _ (cap count : ℕ) (log : List ℕ) (words : ℕ) (bytes : List ℕ) (kind : ℕ) where
+  -- the table over the records of the log
+  abbrev table : ℕ
+  table = refusalAfter cap (hist log count) bytes
+
+  pub decided-unfit : suitsBy cap count (length log) words ≡ false → 261 ≡ decided (pushRefusalBy cap count log words bytes) kind
+  decided-unfit e = sym (ap (λ (b : Bool). decided (cond b table 5) kind) e)
+
+  suited : suitsBy cap count (length log) words ≡ true → decided (pushRefusalBy cap count log words bytes) kind ≡ decided table kind
+  suited e = ap (λ (b : Bool). decided (cond b table 5) kind) e
 
   -- a form that draws a refusal
-  pub decided-form : (f : ℕ) → (f ≡ 0 → ⊥) → suitsBy cap count logs words ≡ true → refusalOf bytes ≡ f
-      → 256 + f ≡ decided (pushRefusalBy cap count logs words bytes) kind
+  pub decided-form : (f : ℕ) → (f ≡ 0 → ⊥) → suitsBy cap count (length log) words ≡ true → refusalOf bytes ≡ f
+      → 256 + f ≡ decided (pushRefusalBy cap count log words bytes) kind
   decided-form f n e r =
       let z : eqb f 0 ≡ false = ne-eqb f 0 n in
-      sym (ap (λ (b : Bool). decided (cond b (orFull (refusalOf bytes) cap count) 5) kind) e
-      ∙ ap (λ (g : ℕ). decided (orFull g cap count) kind) r
-      ∙ ap (λ (b : Bool). decided (cond b (cond (eqb count cap) 6 0) f) kind) z
+      let lost = stray (decode bytes) (hist log count) in
+      let full = eqb (length (hist log count)) cap in
+      sym (suited e
+      ∙ ap (λ (g : ℕ). decided (orNext g lost full) kind) r
+      ∙ ap (λ (b : Bool). decided (cond b (cond lost 11 (cond full 6 0)) f) kind) z
       ∙ ap (λ (b : Bool). cond b (concernedBits kind) (256 + f)) z)
 
   -- the rest, by the checks that the kind concerns
-  pub decided-sound : {r concerned : ℕ} → suitsBy cap count logs words ≡ true → concerned ≡ concernedBits kind
-      → r ≡ soundBy (refusalOf bytes) count cap concerned → r ≡ decided (pushRefusalBy cap count logs words bytes) kind
+  pub decided-sound : {r concerned : ℕ} → suitsBy cap count (length log) words ≡ true → concerned ≡ concernedBits kind
+      → r ≡ soundBy (refusalOf bytes) (stray (decode bytes) (hist log count)) (eqb count cap) concerned
+      → r ≡ decided (pushRefusalBy cap count log words bytes) kind
   decided-sound e q u =
-      u ∙ ap (soundBy (refusalOf bytes) count cap) q
-      ∙ sym (ap (λ (b : Bool). decided (cond b (orFull (refusalOf bytes) cap count) 5) kind) e)
+      let lost = stray (decode bytes) (hist log count) in
+      let many : count ≡ length (hist log count) = sym (hist-length log count) in
+      u
+      ∙ ap (soundBy (refusalOf bytes) lost (eqb count cap)) q
+      ∙ ap (λ (k : ℕ). soundBy (refusalOf bytes) lost (eqb k cap) (concernedBits kind)) many
+      ∙ sym (suited e)
 
 -- what stands in `sound`, refusal by refusal
-module _ (form count cap concerned : ℕ) where
-  pub sound-form : (form ≡ 0 → ⊥) → 256 + form ≡ soundBy form count cap concerned
+module _ (form : ℕ) (lost full : Bool) (concerned : ℕ) where
+  pub sound-form : (form ≡ 0 → ⊥) → 256 + form ≡ soundBy form lost full concerned
   sound-form n =
       let z : eqb form 0 ≡ false = ne-eqb form 0 n in
-      sym (ap (λ (b : Bool). cond (eqb (cond b (cond (eqb count cap) 6 0) form) 0) concerned (256 + cond b (cond (eqb count cap) 6 0) form)) z
-      ∙ ap (λ (b : Bool). cond b concerned (256 + form)) z)
+      let next : Bool → ℕ = λ b. cond b (cond lost 11 (cond full 6 0)) form in
+      sym (ap (λ (b : Bool). cond (eqb (next b) 0) concerned (256 + next b)) z ∙ ap (λ (b : Bool). cond b concerned (256 + form)) z)
 
-  pub sound-full : form ≡ 0 → eqb count cap ≡ true → 262 ≡ soundBy form count cap concerned
-  sound-full e f = sym (rw (e, f))
+  pub sound-lost : form ≡ 0 → lost ≡ true → 267 ≡ soundBy form lost full concerned
+  sound-lost e f = sym (rw (e, f))
 
-  pub sound-clear : form ≡ 0 → eqb count cap ≡ false → concerned ≡ soundBy form count cap concerned
-  sound-clear e f = sym (rw (e, f))
+  pub sound-full : form ≡ 0 → lost ≡ false → full ≡ true → 262 ≡ soundBy form lost full concerned
+  sound-full e f g = sym (rw (e, f, g))
+
+  pub sound-clear : form ≡ 0 → lost ≡ false → full ≡ false → concerned ≡ soundBy form lost full concerned
+  sound-clear e f g = sym (rw (e, f, g))
 
 -- a kind that is none of document 01's
 unknown-kind : (kind : ℕ) → (1 ≤ kind → kind ≤ 12 → ⊥) → shapeOf kind ≡ Unknown
@@ -97,12 +119,14 @@ suits-zero : (b : Bool) (x : ℕ) → cond b x 5 ≡ 0 → (b ≡ true) × (x �
 suits-zero true x e = (refl, e)
 suits-zero false x e = absurd (omega arith)
 
-full-zero : (form : ℕ) (full b : Bool) → eqb form 0 ≡ b → cond b (cond full 6 0) form ≡ 0 → (form ≡ 0) × (full ≡ false)
-full-zero form true true e z = absurd (omega arith)
-full-zero form false true e z = (eqb-true form 0 e, refl)
-full-zero form full false e z = absurd (eqb-false form 0 e z)
+next-zero : (form : ℕ) (lost full b : Bool) → eqb form 0 ≡ b → cond b (cond lost 11 (cond full 6 0)) form ≡ 0
+    → (form ≡ 0) × (lost ≡ false) × (full ≡ false)
+next-zero form true full true e z = absurd (omega arith)
+next-zero form false true true e z = absurd (omega arith)
+next-zero form false false true e z = (eqb-true form 0 e, refl, refl)
+next-zero form lost full false e z = absurd (eqb-false form 0 e z)
 
-sized : (bytes : List ℕ) → refusalOf bytes ≡ 0 → length bytes ≡ 368
+pub sized : (bytes : List ℕ) → refusalOf bytes ≡ 0 → length bytes ≡ 368
 sized bytes z = elim (ℕ-discrete (length bytes) 368) [
   | yes e ↦ e
   | no n ↦ absurd (let w = wrong-size bytes n in omega arith)
@@ -114,19 +138,22 @@ pub record Room (cap count : ℕ) (log work bytes : List ℕ) : Type 0 where
   pub room : count < cap
   pub size : length bytes ≡ 368
 
-pub room-of : {cap count : ℕ} {log work bytes : List ℕ} → pushRefusalBy cap count (length log) (length work) bytes ≡ 0 → Room cap count log work bytes
+pub room-of : {cap count : ℕ} {log work bytes : List ℕ} → pushRefusalBy cap count log (length work) bytes ≡ 0 → Room cap count log work bytes
 room-of {cap} {count} {log} {work} {bytes} z =
-    let s = suits-zero (suitsBy cap count (length log) (length work)) (orFull (refusalOf bytes) cap count) z in
-    let f = full-zero (refusalOf bytes) (eqb count cap) (eqb (refusalOf bytes) 0) refl (s .1) in
+    let h = hist log count in
+    let form = refusalOf bytes in
+    let s = suits-zero (suitsBy cap count (length log) (length work)) (refusalAfter cap h bytes) z in
+    let f = next-zero form (stray (decode bytes) h) (eqb (length h) cap) (eqb form 0) refl (s .1) in
     let u = suiting (s .0) in
     let l : count ≤ cap = u .within in
-    let n : count ≡ cap → ⊥ = eqb-false _ _ (f .1) in
+    let n : length h ≡ cap → ⊥ = eqb-false _ _ (f .2) in
+    let many : length h ≡ count = hist-length log count in
     record { suits = u; room = omega arith; size = sized bytes (f .0) }
 
 pub room-bounds : {cap count : ℕ} {log work bytes : List ℕ} → Room cap count log work bytes → Bounds log work count cap
 room-bounds r = let d = r .room in bounded (r .suits) (λ z. omega arith)
 
--- ---- a push's refusals end at 6
+-- ---- the numbers of a push's refusals
 
 values-few : (a b : Bool) → cond a (cond b 0 4) 3 ≤ 4
 values-few true true = omega arith
@@ -145,26 +172,32 @@ form-few : (bytes : List ℕ) → refusalOf bytes ≤ 4
 unfolding refusalOf
 form-few bytes = size-few (eqb (length bytes) 368) (shapedRefusal (shapeOf (byteAt 0 bytes)) bytes) (shaped-few (shapeOf (byteAt 0 bytes)) bytes)
 
-full-few : (form : ℕ) (full b : Bool) → form ≤ 4 → cond b (cond full 6 0) form ≤ 6
-full-few form true true l = omega arith
-full-few form false true l = omega arith
-full-few form full false l = omega arith
+next-number : (form : ℕ) (lost full b : Bool) → form ≤ 4 → PushNumber (cond b (cond lost 11 (cond full 6 0)) form)
+next-number form true full true l = inr refl
+next-number form false true true l = inl (omega arith)
+next-number form false false true l = inl (omega arith)
+next-number form lost full false l = inl (omega arith)
 
-few-by : (b : Bool) (x : ℕ) → x ≤ 6 → cond b x 5 ≤ 6
-few-by true x l = l
-few-by false x l = omega arith
+number-by : (b : Bool) (x : ℕ) → PushNumber x → PushNumber (cond b x 5)
+number-by true x l = l
+number-by false x l = inl (omega arith)
 
-pub push-few : (cap count logs words : ℕ) (bytes : List ℕ) → pushRefusalBy cap count logs words bytes ≤ 6
-push-few cap count logs words bytes =
-    few-by (suitsBy cap count logs words) (orFull (refusalOf bytes) cap count)
-    (full-few (refusalOf bytes) (eqb count cap) (eqb (refusalOf bytes) 0) (form-few bytes))
+after-number : (bytes : List ℕ) (cap : ℕ) (h : History) → PushNumber (refusalAfter cap h bytes)
+after-number bytes cap h =
+    next-number (refusalOf bytes) (stray (decode bytes) h) (eqb (length h) cap) (eqb (refusalOf bytes) 0) (form-few bytes)
+
+pub push-number : (cap count : ℕ) (log : List ℕ) (words : ℕ) (bytes : List ℕ) → PushNumber (pushRefusalBy cap count log words bytes)
+push-number cap count log words bytes =
+    number-by (suitsBy cap count (length log) words) (refusalAfter cap (hist log count) bytes) (after-number bytes cap (hist log count))
 
 -- ---- 5 is of the judge and its lengths alone
 
-full-sound : (form : ℕ) (full b : Bool) → form ≤ 4 → cond b (cond full 6 0) form ≡ 5 → ⊥
-full-sound form true true l e = omega arith
-full-sound form false true l e = omega arith
-full-sound form full false l e = omega arith
+next-sound : (form : ℕ) (lost full b : Bool) → form ≤ 4 → cond b (cond lost 11 (cond full 6 0)) form ≡ 5 → ⊥
+next-sound form true full true l e = omega arith
+next-sound form false true true l e = omega arith
+next-sound form false false true l e = omega arith
+next-sound form lost full false l e = omega arith
 
-pub after-sound : (bytes : List ℕ) (cap count : ℕ) → orFull (refusalOf bytes) cap count ≡ 5 → ⊥
-after-sound bytes cap count = full-sound (refusalOf bytes) (eqb count cap) (eqb (refusalOf bytes) 0) (form-few bytes)
+pub after-sound : (bytes : List ℕ) (cap : ℕ) (h : History) → refusalAfter cap h bytes ≡ 5 → ⊥
+after-sound bytes cap h =
+    next-sound (refusalOf bytes) (stray (decode bytes) h) (eqb (length h) cap) (eqb (refusalOf bytes) 0) (form-few bytes)

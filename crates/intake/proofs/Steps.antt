@@ -3,7 +3,7 @@
 use mathlib.Core.Path.{_≡_, refl, sym, ap, _∙_}
 use mathlib.Core.Bool.{Bool, true, false}
 use mathlib.Core.List.{List, [], _∷_}
-use Prim.Native.Nat.{ℕ, suc, _+_, _*_, _/_, _%_, _≤_, _<_}
+use Prim.Native.Nat.{ℕ, _*_, _/_, _%_, _≤_, _<_}
 use native.Mathlib.Omega.{arith}
 use lib.ListN.{length, getD, set}
 use lib.Seq.{sets, set-getD, length-sets}
@@ -17,7 +17,8 @@ use Rattle.rules.specs.declared.Report.{Report}
 use Rattle.rules.specs.declared.Verdict.{Verdict}
 use Rattle.rules.specs.declared.Verdict.the-variants.{Pass, Faulted}
 use Rattle.rules.specs.History.{History}
-use Rattle.rules.specs.Reports.{passed, faulted, position, atFirst, reportOf}
+use Rattle.rules.specs.Events.{events, position}
+use Rattle.rules.specs.Reports.{passed, faulted, atFirst, reportOf}
 use Rattle.rules.specs.Checks.{Check, checks, checkCount, checkAt, caseAt, reportBy, reportsOf, concernedBy}
 use Rattle.rules.proofs.Reports.{reportOf-step, reportOf-kept}
 use Rattle.rules.proofs.Checks.{check-at}
@@ -27,6 +28,8 @@ use Rattle.rows.specs.Rows.{kindWord, reportWords, rowsOf, KindsFit, enteredIn,
 use Rattle.rows.proofs.ReadBack.{rows-set, row-kind}
 use Rattle.history.specs.Logs.{hist}
 use Rattle.history.proofs.Logs.{hist-length}
+use Rattle.events.specs.Numbers.{eventIn}
+use Rattle.events.proofs.Numbers.{event-is}
 use Rattle.intake.specs.Refusals.{concernedBits}
 use Rattle.intake.specs.Words.{Indexed}
 use Rattle.intake.specs.Steps.{Ready, Tells, SteppedIn, JudgedIn}
@@ -113,8 +116,7 @@ module _ (k w : ℕ) (l : k < checkCount) (cap : ℕ) (log work : List ℕ) (n :
         let x = decode bytes in
         let h = hist log n in
         let v = is-pass k l o x h rows rs many are old z in
-        let q : at ≡ position (x ∷ h) = p ∙ (let m = hist-length log n in omega arith) in
-        e .is ∙ ap (enteredIn rows k c) q ∙ entered-by k l o x h rows rs many are old c (sym (says i v)) v;
+        e .is ∙ ap (enteredIn rows k c) p ∙ entered-by k l o x h rows rs many are old c (sym (says i v)) v;
   }
 
 -- ---- all of them
@@ -124,22 +126,24 @@ pub ready-more : {log work bytes rows rows′ : List ℕ} {n cap : ℕ} → Read
 ready-more r e = record { bounds = r .bounds; size = r .size; rows-size = e ∙ r .rows-size }
 
 -- each check has stepped its own row
-pub judged-all : (o : Opening) (cap : ℕ) (log work : List ℕ) (n : ℕ) (bytes : List ℕ) (concerned at : ℕ) → at ≡ n + 1
+pub judged-all : (o : Opening) (cap : ℕ) (log work : List ℕ) (n e : ℕ) (bytes : List ℕ) (concerned at : ℕ)
+    → at ≡ eventIn e (decode bytes) → n ≤ 4096
     → {r0 r1 r2 r3 r4 r5 r6 r7 r8 : List ℕ}
     → SteppedIn 0 1 o cap log work n bytes concerned at r0 r1 → SteppedIn 1 2 o cap log work n bytes concerned at r1 r2
     → SteppedIn 2 4 o cap log work n bytes concerned at r2 r3 → SteppedIn 3 8 o cap log work n bytes concerned at r3 r4
     → SteppedIn 4 16 o cap log work n bytes concerned at r4 r5 → SteppedIn 5 32 o cap log work n bytes concerned at r5 r6
     → SteppedIn 6 64 o cap log work n bytes concerned at r6 r7 → SteppedIn 7 128 o cap log work n bytes concerned at r7 r8
-    → JudgedIn o cap log work n bytes concerned r0 r8
+    → JudgedIn o cap log work n e bytes concerned r0 r8
 unfolding reportsOf
-judged-all o cap log work n bytes concerned at p s0 s1 s2 s3 s4 s5 s6 s7 = record {
+judged-all o cap log work n e bytes concerned at z l s0 s1 s2 s3 s4 s5 s6 s7 = record {
   size = s7 .size ∙ s6 .size ∙ s5 .size ∙ s4 .size ∙ s3 .size ∙ s2 .size ∙ s1 .size ∙ s0 .size;
   fits = λ f. s7 .fits (s6 .fits (s5 .fits (s4 .fits (s3 .fits (s2 .fits (s1 .fits (s0 .fits f)))))));
-  judged = λ i q are.
+  judged = λ i v q are.
       let x = decode bytes in
+      let p : at ≡ events (x ∷ hist log n) = z ∙ event-is e x (hist log n) v (let m = hist-length log n in omega arith) in
       let b = read (x .kind) in
       let tells : (k w : ℕ) → concernedBits (x .kind) / w % 2 ≡ bit (x .kind) k → Tells k w concerned x =
-      λ k w e z. off (x .kind) k w e (λ y. z (ap (λ (d : ℕ). d / w % 2) q ∙ y)) in
+      λ k w u z. off (x .kind) k w u (λ y. z (ap (λ (d : ℕ). d / w % 2) q ∙ y)) in
       let a1 = s0 .steps i p (tells 0 1 (b .b0)) _ refl are refl in
       let a2 = s1 .steps i p (tells 1 2 (b .b1)) _ refl a1 refl in
       let a3 = s2 .steps i p (tells 2 4 (b .b2)) _ refl a2 refl in

@@ -17,14 +17,14 @@ kind-is : (bytes : List ℕ) → decode bytes .kind ≡ byteAt 0 bytes
 unfolding decode
 kind-is bytes = refl
 
-module _ (o : Opening) (cap n : ℕ) (log work rows bytes : List ℕ) where
-  module _ {d : ℕ} (q : d ≡ decided (pushRefusalBy cap n (length log) (length work) bytes) (byteAt 0 bytes)) where
+module _ (o : Opening) (cap n e : ℕ) (log work rows bytes : List ℕ) where
+  module _ {d : ℕ} (q : d ≡ decided (pushRefusalBy cap n log (length work) bytes) (byteAt 0 bytes)) where
     -- refused
-    pub previews-off : 256 ≤ d → PreviewsIn o cap n log work rows bytes (d - 256) rows
+    pub previews-off : 256 ≤ d → PreviewsIn o cap n e log work rows bytes (d - 256) rows
     previews-off l =
-        let f = pushRefusalBy cap n (length log) (length work) bytes in
+        let f = pushRefusalBy cap n log (length work) bytes in
         let w = decided-refused f (byteAt 0 bytes) q l in
-        let e : d ≡ 256 + f = w .0 in
+        let q : d ≡ 256 + f = w .0 in
         let z : f ≡ 0 → ⊥ = w .1 in
         record {
           refusal = omega arith;
@@ -35,12 +35,12 @@ module _ (o : Opening) (cap n : ℕ) (log work rows bytes : List ℕ) where
         }
 
     module _ (l : d < 256) where
-      none : pushRefusalBy cap n (length log) (length work) bytes ≡ 0
-      none = decided-taken (pushRefusalBy cap n (length log) (length work) bytes) (byteAt 0 bytes) q (λ m. omega arith) .0
+      none : pushRefusalBy cap n log (length work) bytes ≡ 0
+      none = decided-taken (pushRefusalBy cap n log (length work) bytes) (byteAt 0 bytes) q (λ m. omega arith) .0
 
       bits : d ≡ concernedBits (decode bytes .kind)
       bits =
-          decided-taken (pushRefusalBy cap n (length log) (length work) bytes) (byteAt 0 bytes) q (λ m. omega arith) .1
+          decided-taken (pushRefusalBy cap n log (length work) bytes) (byteAt 0 bytes) q (λ m. omega arith) .1
           ∙ ap concernedBits (sym (kind-is bytes))
 
       pub judge-ready : length rows ≡ 56 → Ready log work n cap bytes rows
@@ -49,18 +49,18 @@ module _ (o : Opening) (cap n : ℕ) (log work rows bytes : List ℕ) where
           record { bounds = room-bounds r; size = r .size; rows-size = s }
 
       -- judged
-      pub previews-on : {rows′ : List ℕ} → JudgedIn o cap log work n bytes d rows rows′ → PreviewsIn o cap n log work rows bytes 0 rows′
+      pub previews-on : {rows′ : List ℕ} → JudgedIn o cap log work n e bytes d rows rows′ → PreviewsIn o cap n e log work rows bytes 0 rows′
       previews-on j = record {
         refusal = sym none;
         refused = λ x. absurd (x refl);
-        judged = λ x i are. j .judged i bits are;
+        judged = λ x i v are. j .judged i v bits are;
         size = j .size;
         fits = j .fits;
       }
 
-  module _ {r : ℕ} {rows′ : List ℕ} (p : PreviewsIn o cap n log work rows bytes r rows′) where
+  module _ {r : ℕ} {rows′ : List ℕ} (p : PreviewsIn o cap n e log work rows bytes r rows′) where
     -- what is refused in a preview is refused, and everything is as it stood
-    pub takes-off : (r ≡ 0 → ⊥) → TakesIn o cap n log work rows bytes r log work rows′
+    pub takes-off : (r ≡ 0 → ⊥) → TakesIn o cap n e log work rows bytes r log work rows′
     takes-off z = record {
       refusal = p .refusal;
       refused = λ x. (refl, refl, p .refused z);
@@ -82,7 +82,7 @@ module _ (o : Opening) (cap n : ℕ) (log work rows bytes : List ℕ) where
           record { bounds = room-bounds r; holds = omega arith; room = m; size = r .size }
 
       -- taken: judged and kept
-      pub takes-on : {log′ work′ : List ℕ} → KeptIn cap n log work bytes log′ work′ → TakesIn o cap n log work rows bytes 0 log′ work′ rows′
+      pub takes-on : {log′ work′ : List ℕ} → KeptIn cap n log work bytes log′ work′ → TakesIn o cap n e log work rows bytes 0 log′ work′ rows′
       takes-on k = record {
         refusal = sym z ∙ p .refusal;
         refused = λ x. absurd (x refl);

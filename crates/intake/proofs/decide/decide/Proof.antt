@@ -2,16 +2,22 @@
 use mathlib.Core.Path.{_≡_, sym, ap, _∙_}
 use mathlib.Core.Bool.{true, false}
 use mathlib.Core.Logic.{⊎-elim}
-use Prim.Native.Nat.{ℕ, _≤_}
+use Prim.Native.Nat.{ℕ, _*_, _≤_}
 use native.Mathlib.Omega.{arith}
+use lib.ListN.{length}
+use lib.Dec.{eqb}
 use borrow.Author.Tests.{not-true, not-false}
 use borrow.Author.Needs.{needs}
 use Rattle.record.specs.Numbers.{byteAt}
 use Rattle.record.specs.Form.{refusalOf}
+use Rattle.record.specs.Records.{decode}
 use Rattle.record.proofs.Sound.{wrong-size}
+use Rattle.rules.specs.Events.{stray}
+use Rattle.history.specs.Logs.{hist}
 use Rattle.intake.specs.Refusals.{suitsBy, pushRefusalBy, concernedBits, decided, soundBy}
 use Rattle.intake.proofs.Bits.{bits-1, bits-2, bits-3, bits-4, bits-5, bits-8, bits-11, bits-12, bits-none}
 use Rattle.intake.proofs.Decisions.{decided-unfit, decided-form, decided-sound, wrong-kind}
+use Rattle.intake.proofs.Suiting.{suiting}
 use Rattle.intake.proofs.decide.decide.Statement.{statement}
 use Rattle.intake.proofs.decide.decide.Tie as tie
 
@@ -24,13 +30,13 @@ add-result c = search needs
 returns : tie.Need-returns
 returns c =
     let u = c .before .suits in
-    let a = c .before .before .before .args in
-    let h : suitsBy (a .cap) (a .count) (a .logs) (a .words) ≡ false = sym (u .ensures) ∙ not-true (u .result) (c .if1 .taken) in
-    decided-unfit (a .cap) (a .count) (a .logs) (a .words) (a .rec .now) (byteAt 0 (a .rec .now)) h
+    let a = c .before .before .before .before .args in
+    let h : suitsBy (a .cap) (a .count) (length (a .log .now)) (a .words) ≡ false = sym (u .ensures) ∙ not-true (u .result) (c .if1 .taken) in
+    decided-unfit (a .cap) (a .count) (a .log .now) (a .words) (a .rec .now) (byteAt 0 (a .rec .now)) h
 
 -- past the first test the judge and its buffers suit
 module _ (c : tie.Else1) where
-  suited : let a = c .before .before .before .args in suitsBy (a .cap) (a .count) (a .logs) (a .words) ≡ true
+  suited : let a = c .before .before .before .before .args in suitsBy (a .cap) (a .count) (length (a .log .now)) (a .words) ≡ true
   suited = let u = c .before .suits in sym (u .ensures) ∙ not-false (u .result) (c .if1 .left)
 
 add-result-2 : tie.Need-add-result-2
@@ -38,22 +44,32 @@ add-result-2 c = search needs
 
 returns-2 : tie.Need-returns-2
 returns-2 c =
-    let a = c .before .before .before .before .args in
+    let a = c .before .before .before .before .before .args in
     let r : refusalOf (a .rec .now) ≡ 1 = wrong-size (a .rec .now) (c .if2 .taken) in
-    decided-form (a .cap) (a .count) (a .logs) (a .words) (a .rec .now) (byteAt 0 (a .rec .now)) 1 (λ z. omega arith) (suited (c .before)) r
+    decided-form (a .cap) (a .count) (a .log .now) (a .words) (a .rec .now) (byteAt 0 (a .rec .now)) 1 (λ z. omega arith) (suited (c .before)) r
 
 shared-slice-read-kind : tie.Need-shared-slice-read-kind
 shared-slice-read-kind c = search needs
 
 -- an arm whose kind concerns the checks that it names
-module _ (c : tie.After-shared-slice-known2) {r concerned : ℕ} where
-  arm : let a = c .before .before .before .before .before .args in
+module _ (c : tie.After-shared-slice-known3) {r concerned : ℕ} where
+  arm : let a = c .before .before .before .before .before .before .args in
       concernedBits (byteAt 0 (a .rec .now)) ≡ concerned
-      → r ≡ soundBy (refusalOf (a .rec .now)) (a .count) (a .cap) concerned
-      → r ≡ decided (pushRefusalBy (a .cap) (a .count) (a .logs) (a .words) (a .rec .now)) (byteAt 0 (a .rec .now))
+      → r ≡ soundBy (refusalOf (a .rec .now)) (stray (decode (a .rec .now)) (hist (a .log .now) (a .count))) (eqb (a .count) (a .cap)) concerned
+      → r ≡ decided (pushRefusalBy (a .cap) (a .count) (a .log .now) (a .words) (a .rec .now)) (byteAt 0 (a .rec .now))
   arm b e =
-      let a = c .before .before .before .before .before .args in
-      decided-sound (a .cap) (a .count) (a .logs) (a .words) (a .rec .now) (byteAt 0 (a .rec .now)) (suited (c .before .before)) (sym b) e
+      let a = c .before .before .before .before .before .before .args in
+      decided-sound (a .cap) (a .count) (a .log .now) (a .words) (a .rec .now) (byteAt 0 (a .rec .now)) (suited (c .before .before)) (sym b) e
+
+-- what every arm's call of `sound` asks
+module _ (c : tie.After-shared-slice-known3) where
+  holds : let a = c .before .before .before .before .before .before .args in 368 * a .count ≤ length (a .log .now)
+  holds =
+      let a = c .before .before .before .before .before .before .args in
+      let u = suiting (suited (c .before .before)) in
+      let within : a .count ≤ a .cap = u .within in
+      let log : length (a .log .now) ≡ 368 * a .cap = u .log in
+      omega arith
 
 add-sound : tie.Need-add-sound
 add-sound c = search needs
@@ -65,7 +81,7 @@ add-sound-3 : tie.Need-add-sound-3
 add-sound-3 c = search needs
 
 sound-requires : tie.Need-sound-requires
-sound-requires c κs = search needs
+sound-requires c κs = holds (c .before)
 
 add-sound-4 : tie.Need-add-sound-4
 add-sound-4 c = search needs
@@ -74,31 +90,31 @@ add-sound-5 : tie.Need-add-sound-5
 add-sound-5 c = search needs
 
 sound-requires-2 : tie.Need-sound-requires-2
-sound-requires-2 c κs = search needs
+sound-requires-2 c κs = holds (c .before)
 
 add-sound-6 : tie.Need-add-sound-6
 add-sound-6 c = search needs
 
 sound-requires-3 : tie.Need-sound-requires-3
-sound-requires-3 c κs = search needs
+sound-requires-3 c κs = holds (c .before)
 
 sound-requires-4 : tie.Need-sound-requires-4
-sound-requires-4 c κs = search needs
+sound-requires-4 c κs = holds (c .before)
 
 sound-requires-5 : tie.Need-sound-requires-5
-sound-requires-5 c κs = search needs
+sound-requires-5 c κs = holds (c .before)
 
 sound-requires-6 : tie.Need-sound-requires-6
-sound-requires-6 c κs = search needs
+sound-requires-6 c κs = holds (c .before)
 
 sound-requires-7 : tie.Need-sound-requires-7
-sound-requires-7 c κs = search needs
+sound-requires-7 c κs = holds (c .before)
 
 add-result-3 : tie.Need-add-result-3
 add-result-3 c = search needs
 
 sound-requires-8 : tie.Need-sound-requires-8
-sound-requires-8 c κs = search needs
+sound-requires-8 c κs = holds (c .before)
 
 returns-3 : tie.Need-returns-3
 returns-3 c = arm (c .before .before) (ap concernedBits (c .before .match .keys1) ∙ bits-1) (c .sound .ensures)
@@ -125,17 +141,17 @@ returns-9 c = arm (c .before .before) (ap concernedBits (c .before .match .keys7
 returns-10 : tie.Need-returns-10
 returns-10 c =
     let p = c .before .before in
-    let a = p .before .before .before .before .before .args in
+    let a = p .before .before .before .before .before .before .args in
     let k = byteAt 0 (a .rec .now) in
     let n = c .before .match .rest in
     let n11 : k ≡ 11 → ⊥ = n .0 .0 .1 in
     let n12 : k ≡ 12 → ⊥ = n .0 .1 in
     let o : 1 ≤ k → k ≤ 12 → ⊥ = λ l h. ⊎-elim (λ t. omega (arith, t .taken)) (λ t. omega (arith, t .1 .left)) (c .if3 .came) in
     let r : refusalOf (a .rec .now) ≡ 2 = wrong-kind (a .rec .now) (p .before .if2 .left) o in
-    decided-form (a .cap) (a .count) (a .logs) (a .words) (a .rec .now) k 2 (λ z. omega arith) (suited (p .before .before)) r
+    decided-form (a .cap) (a .count) (a .log .now) (a .words) (a .rec .now) k 2 (λ z. omega arith) (suited (p .before .before)) r
 
 -- the kinds that no check names: 4, or one that no arm before has
-unnamed : (c : tie.At-match-came) → concernedBits (byteAt 0 (c .before .before .before .before .before .before .args .rec .now)) ≡ 0
+unnamed : (c : tie.At-match-came) → concernedBits (byteAt 0 (c .before .before .before .before .before .before .before .args .rec .now)) ≡ 0
 unnamed c =
     ⊎-elim
     (λ w. ap concernedBits (w .keys8) ∙ bits-4)

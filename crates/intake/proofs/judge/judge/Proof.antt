@@ -1,11 +1,9 @@
 -- `judge`: each check steps its own row, one after the other.
-use mathlib.Core.Path.{_≡_, refl, _∙_}
-use Prim.Native.Nat.{_+_}
+use mathlib.Core.Path.{_∙_}
+use Prim.Native.Nat.{_≤_}
 use native.Mathlib.Omega.{arith}
-use lib.ListN.{length}
 use borrow.Author.Needs.{needs}
 use Rattle.rules.specs.declared.Opening.{Opening}
-use Rattle.intake.specs.Steps.{Ready}
 use Rattle.intake.proofs.Steps.{ready-more, judged-all}
 use Rattle.intake.proofs.judge.judge.Statement.{statement}
 use Rattle.intake.proofs.judge.judge.Tie as tie
@@ -14,8 +12,8 @@ use Rattle.intake.proofs.judge.judge.Tie as tie
 abbrev any : Opening
 any = record { tenant = 0 }
 
-add-position : tie.Need-add-position
-add-position c = search needs
+event-after-requires : tie.Need-event-after-requires
+event-after-requires c κs = search needs
 
 next-agreement-requires : tie.Need-next-agreement-requires
 next-agreement-requires c κs = search needs
@@ -23,20 +21,20 @@ next-agreement-requires c κs = search needs
 next-overlap-requires : tie.Need-next-overlap-requires
 next-overlap-requires c κs =
     let c1 = c .before .before .before in
-    ready-more (c1 .before .before .before .before .before .before .pre) (c1 .next-agreement .ensures any .size)
+    ready-more (c1 .before .before .before .before .before .before .before .pre) (c1 .next-agreement .ensures any .size)
 
 next-install-requires : tie.Need-next-install-requires
 next-install-requires c κs =
     let c2 = c .before .before .before in
     let c1 = c2 .before .before .before .before in
-    ready-more (c1 .before .before .before .before .before .before .pre) (c2 .next-overlap .ensures any .size ∙ c1 .next-agreement .ensures any .size)
+    ready-more (c1 .before .before .before .before .before .before .before .pre) (c2 .next-overlap .ensures any .size ∙ c1 .next-agreement .ensures any .size)
 
 next-twice-requires : tie.Need-next-twice-requires
 next-twice-requires c κs =
     let c3 = c .before .before .before in
     let c2 = c3 .before .before .before .before in
     let c1 = c2 .before .before .before .before in
-    ready-more (c1 .before .before .before .before .before .before .pre)
+    ready-more (c1 .before .before .before .before .before .before .before .pre)
     (c3 .next-install .ensures .size ∙ c2 .next-overlap .ensures any .size ∙ c1 .next-agreement .ensures any .size)
 
 next-half-requires : tie.Need-next-half-requires
@@ -45,7 +43,7 @@ next-half-requires c κs =
     let c3 = c4 .before .before .before .before in
     let c2 = c3 .before .before .before .before in
     let c1 = c2 .before .before .before .before in
-    ready-more (c1 .before .before .before .before .before .before .pre)
+    ready-more (c1 .before .before .before .before .before .before .before .pre)
     (c4 .next-twice .ensures any .size ∙ c3 .next-install .ensures .size ∙ c2 .next-overlap .ensures any .size
     ∙ c1 .next-agreement .ensures any .size)
 
@@ -56,7 +54,7 @@ next-generations-requires c κs =
     let c3 = c4 .before .before .before .before in
     let c2 = c3 .before .before .before .before in
     let c1 = c2 .before .before .before .before in
-    ready-more (c1 .before .before .before .before .before .before .pre)
+    ready-more (c1 .before .before .before .before .before .before .before .pre)
     (c5 .next-half .ensures any .size ∙ c4 .next-twice .ensures any .size ∙ c3 .next-install .ensures .size
     ∙ c2 .next-overlap .ensures any .size ∙ c1 .next-agreement .ensures any .size)
 
@@ -68,7 +66,7 @@ next-ids-requires c κs =
     let c3 = c4 .before .before .before .before in
     let c2 = c3 .before .before .before .before in
     let c1 = c2 .before .before .before .before in
-    ready-more (c1 .before .before .before .before .before .before .pre)
+    ready-more (c1 .before .before .before .before .before .before .before .pre)
     (c6 .next-generations .ensures any .size ∙ c5 .next-half .ensures any .size ∙ c4 .next-twice .ensures any .size
     ∙ c3 .next-install .ensures .size ∙ c2 .next-overlap .ensures any .size ∙ c1 .next-agreement .ensures any .size)
 
@@ -81,7 +79,7 @@ next-meta-requires c κs =
     let c3 = c4 .before .before .before .before in
     let c2 = c3 .before .before .before .before in
     let c1 = c2 .before .before .before .before in
-    ready-more (c1 .before .before .before .before .before .before .pre)
+    ready-more (c1 .before .before .before .before .before .before .before .pre)
     (c7 .next-ids .ensures any .size ∙ c6 .next-generations .ensures any .size ∙ c5 .next-half .ensures any .size
     ∙ c4 .next-twice .ensures any .size ∙ c3 .next-install .ensures .size ∙ c2 .next-overlap .ensures any .size
     ∙ c1 .next-agreement .ensures any .size)
@@ -110,10 +108,14 @@ returns c =
     let c3 = c4 .before .before .before .before in
     let c2 = c3 .before .before .before .before in
     let c1 = c2 .before .before .before .before in
-    let s = c1 .before .before .before .before .before .before in
+    let p = c1 .before .before in
+    let s = p .before .before .before .before .before in
     let a = s .args in
     let o : Opening = record { tenant = a .tenant } in
-    judged-all o (a .cap) (a .log .now) (a .work .now) (a .n) (a .rec .now) (a .concerned) (a .n + 1) refl
+    let few : a .n ≤ 4096 = let b = s .pre .bounds in let w = b .within in let m = b .small in omega arith in
+    judged-all o (a .cap) (a .log .now) (a .work .now) (a .n) (a .events) (a .rec .now) (a .concerned) (p .event-after .result)
+    (p .event-after .ensures)
+    few
     (c1 .next-agreement .ensures o)
     (c2 .next-overlap .ensures o)
     (c3 .next-install .ensures)
@@ -127,7 +129,7 @@ pub judge-spec : {M : Type 1} → statement M
 judge-spec =
     tie.close
     (tie.spec
-    add-position
+    event-after-requires
     next-agreement-requires
     next-overlap-requires
     next-install-requires

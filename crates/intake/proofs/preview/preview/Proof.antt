@@ -35,14 +35,14 @@ returns : tie.Need-returns
 returns c =
     let d = c .before in
     let a = s d .args in
-    previews-off (o d) (a .cap) (a .n) (log d) (work d) (rows d) (bytes d) (d .decide .ensures) (c .if1 .taken)
+    previews-off (o d) (a .cap) (a .n) (a .events) (log d) (work d) (rows d) (bytes d) (d .decide .ensures) (c .if1 .taken)
 
 judge-requires : tie.Need-judge-requires
 judge-requires c κs =
     let i = c .before in
     let d = i .before in
     let a = s d .args in
-    judge-ready (o d) (a .cap) (a .n) (log d) (work d) (rows d) (bytes d) (d .decide .ensures) (omega (arith, i .if1 .left)) (s d .pre)
+    judge-ready (o d) (a .cap) (a .n) (a .events) (log d) (work d) (rows d) (bytes d) (d .decide .ensures) (omega (arith, i .if1 .left)) (s d .pre)
 
 same-length : tie.Need-same-length
 same-length c = search needs
@@ -53,7 +53,7 @@ returns-2 c =
     let i = j .before .before in
     let d = i .before in
     let a = s d .args in
-    previews-on (o d) (a .cap) (a .n) (log d) (work d) (rows d) (bytes d) (d .decide .ensures) (omega (arith, i .if1 .left)) (j .judge .ensures)
+    previews-on (o d) (a .cap) (a .n) (a .events) (log d) (work d) (rows d) (bytes d) (d .decide .ensures) (omega (arith, i .if1 .left)) (j .judge .ensures)
 
 pub preview-spec : {M : Type 1} → statement M
 preview-spec = tie.close (tie.spec decide-requires returns judge-requires same-length returns-2)

@@ -4,7 +4,7 @@ use native.Mathlib.Omega.{arith}
 use borrow.Author.Tests.{not-true, not-false}
 use Rattle.intake.proofs.Steps.{left, kept, stepped}
 use Rattle.rules.specs.Descriptors.{agreement}
-use Rattle.rules.proofs.Reports.{agreement-none}
+use Rattle.rules.proofs.Concerns.{agreement-none}
 use Rattle.rules.proofs.Concerns.{pass-clear}
 use Rattle.history.specs.Logs.{hist}
 use borrow.Author.Needs.{needs}

@@ -43,14 +43,14 @@ returns : tie.Need-returns
 returns c =
     let p = c .before .before .before in
     let a = s p .args in
-    takes-off (o p) (a .cap) (a .n) (log p) (work p) (rows p) (bytes p) (p .preview .ensures) (c .if1 .taken)
+    takes-off (o p) (a .cap) (a .n) (a .events) (log p) (work p) (rows p) (bytes p) (p .preview .ensures) (c .if1 .taken)
 
 keep-requires : tie.Need-keep-requires
 keep-requires c κs =
     let i = c .before .before in
     let p = i .before .before .before in
     let a = s p .args in
-    keepable (o p) (a .cap) (a .n) (log p) (work p) (rows p) (bytes p) (p .preview .ensures) (i .if1 .left)
+    keepable (o p) (a .cap) (a .n) (a .events) (log p) (work p) (rows p) (bytes p) (p .preview .ensures) (i .if1 .left)
 
 same-length-4 : tie.Need-same-length-4
 same-length-4 c = search needs
@@ -67,7 +67,7 @@ returns-2 c =
     let i = k .before .before .before in
     let p = i .before .before .before in
     let a = s p .args in
-    takes-on (o p) (a .cap) (a .n) (log p) (work p) (rows p) (bytes p) (p .preview .ensures) (i .if1 .left) (k .keep .ensures)
+    takes-on (o p) (a .cap) (a .n) (a .events) (log p) (work p) (rows p) (bytes p) (p .preview .ensures) (i .if1 .left) (k .keep .ensures)
 
 pub take-spec : {M : Type 1} → statement M
 take-spec =
