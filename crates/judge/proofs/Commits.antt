@@ -7,10 +7,13 @@ use lib.ListN.{length, replicate}
 use lib.Dec.{eqb}
 use borrow.Author.Tests.{eq-eqb}
 use Rattle.record.specs.Form.{refusalOf}
+use Rattle.record.specs.Records.{decode}
 use Rattle.rules.specs.declared.Report.{Report}
 use Rattle.rules.specs.History.{History}
+use Rattle.rules.specs.Events.{stray}
 use Rattle.rules.proofs.Booleans.{never}
-use Rattle.intake.specs.Refusals.{orFull, suitsBy}
+use Rattle.history.specs.Logs.{hist}
+use Rattle.intake.specs.Refusals.{suitsBy, orNext, refusalAfter}
 use Rattle.intake.specs.Words.{Indexed}
 use Rattle.judge.specs.declared.push.Pushed as Answer
 use Rattle.judge.specs.declared.state.Judge.{Judge}
@@ -18,7 +21,7 @@ use Rattle.judge.specs.declared.state.Refusal.the-variants.{Ticket as St
 use Rattle.judge.specs.declared.ticket.Ticket.{Ticket}
 use Rattle.judge.specs.Tickets.{ticketOf, noTicket}
 use Rattle.judge.specs.States.{State, suits, pushRefusal, commitRefusal, takes}
-use Rattle.judge.specs.Calls.{Call, push, commit, preview, refusalAfter, afterCall, asPushes}
+use Rattle.judge.specs.Calls.{Call, push, commit, preview, afterCall, asPushes}
 use Rattle.judge.specs.Runs.{After, Takes, Pushed, Committed, Called, Run, none, more, stateOf, PushedBy}
 use Rattle.judge.specs.Previews.{Previews, CommittedBy}
 use Rattle.judge.proofs.Demand3.{refusal-is, commit-refusal-is, stepped}
@@ -27,7 +30,7 @@ use Rattle.judge.proofs.Demand3.{refusal-is, commit-refusal-is, stepped
 
 unfit-push : (s : State) (bytes : List ℕ) → suits s ≡ false → pushRefusal s bytes ≡ 5
 unfolding pushRefusal suits
-unfit-push s bytes e = ap (λ (b : Bool). cond b (orFull (refusalOf bytes) (s .judge .capacity) (s .judge .count)) 5) e
+unfit-push s bytes e = ap (λ (b : Bool). cond b (refusalAfter (s .judge .capacity) (hist (s .log) (s .judge .count)) bytes) 5) e
 
 -- 10 by the two tests before it: the judge suits, and the counts differ
 abbrev pub stale : State → Ticket → Bool
@@ -107,8 +110,9 @@ zeros-by s false c e q = refl
 pub zeros-refused : (s : State) → commitRefusal s noTicket ≡ cond (suits s) (cond (eqb 0 (s .judge .count)) 2 10) 5
 unfolding commitRefusal pushRefusal suits
 zeros-refused s =
+    let h = hist (s .log) (s .judge .count) in
     zeros-by s (suits s) (eqb 0 (s .judge .count)) refl
-    (ap (λ (f : ℕ). cond (suits s) (orFull f (s .judge .capacity) (s .judge .count)) 5) zeros-kind)
+    (ap (λ (f : ℕ). cond (suits s) (orNext f (stray (decode (replicate 368 0)) h) (eqb (length h) (s .judge .capacity))) 5) zeros-kind)
 
 -- ---- the call, by what it tests and by the push
 

@@ -7,9 +7,7 @@ use Prim.Native.Nat.{ℕ, _<_}
 use lib.ListN.{length, getD}
 use lib.Seq.{append-snoc}
 use lib.Dec.{eqb}
-use Rattle.record.specs.Form.{refusalOf}
 use Rattle.record.specs.Records.{TraceRecord, decode}
-use Rattle.rules.specs.declared.Case.{Case}
 use Rattle.rules.specs.declared.Opening.{Opening}
 use Rattle.rules.specs.declared.Report.{Report}
 use Rattle.rules.specs.declared.Verdict.the-variants.{Faulted}
@@ -18,14 +16,15 @@ use Rattle.rules.specs.Reports.{passed, Right, reportOf}
 use Rattle.rules.specs.Checks.{checkCount, checkAt, HasBy, caseAt, reportBy, reportsOf}
 use Rattle.rules.proofs.Reports.{reportOf-stays}
 use Rattle.rules.proofs.Checks.{report-at, check-right}
-use Rattle.intake.specs.Refusals.{orFull}
+use Rattle.history.specs.Logs.{hist}
+use Rattle.intake.specs.Refusals.{refusalAfter}
 use Rattle.intake.specs.Words.{Indexed}
 use Rattle.judge.specs.declared.opening.Opened.{Opened}
 use Rattle.judge.specs.declared.state.Judge.{Judge}
 use Rattle.judge.specs.Openings.{Fits, Opens}
 use Rattle.judge.specs.declared.ticket.Ticket.{Ticket}
 use Rattle.judge.specs.States.{State, suits, pushRefusal, commitRefusal}
-use Rattle.judge.specs.Calls.{Call, push, commit, preview, refusalAfter, callRefusal, afterCall, takenOf}
+use Rattle.judge.specs.Calls.{Call, push, commit, preview, callRefusal, afterCall, takenOf}
 use Rattle.judge.specs.Runs.{Indexing, After, Takes, Called, Run, none, more, reportAt, Claim, Demand3, stateOf}
 use Rattle.judge.proofs.Openings.{opened-after}
 
@@ -66,8 +65,9 @@ module _ (Indexed : Indexing) where
   pub refusal-is : (h : History) (s : State) (bytes : List ℕ) → After Indexed h s → pushRefusal s bytes ≡ refusalAfter (s .judge .capacity) h bytes
   unfolding pushRefusal suits
   refusal-is h s bytes a =
-      ap (λ (b : Bool). cond b (orFull (refusalOf bytes) (s .judge .capacity) (s .judge .count)) 5) (a .fits)
-      ∙ ap (orFull (refusalOf bytes) (s .judge .capacity)) (a .count)
+      let taken : hist (s .log) (s .judge .count) ≡ h = ap (hist (s .log)) (a .count) ∙ a .taken in
+      ap (λ (b : Bool). cond b (refusalAfter (s .judge .capacity) (hist (s .log) (s .judge .count)) bytes) 5) (a .fits)
+      ∙ ap (λ (g : History). refusalAfter (s .judge .capacity) g bytes) taken
 
   -- .. and so does a commit
   pub commit-refusal-is : (h : History) (s : State) (k : Ticket) → After Indexed h s

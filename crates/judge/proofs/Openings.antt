@@ -11,6 +11,7 @@ use Rattle.record.proofs.Keys.{never}
 use Rattle.rules.specs.declared.Opening.{Opening}
 use Rattle.rules.specs.Reports.{passed, reportOf}
 use Rattle.rules.specs.Checks.{checkCount, reportsOf}
+use Rattle.rules.proofs.Events.{events-none}
 use Rattle.history.proofs.Logs.{hist-none}
 use Rattle.history.proofs.Cells.{Zeros, zeros, column-clear}
 use Rattle.history.proofs.Chains.{chained-clear}
@@ -60,6 +61,7 @@ fresh-after o c log work f =
     record {
       fits = suits-by (record { small = f .most; within = omega arith; log = f .log; work = l });
       count = refl;
+      events-are = sym events-none;
       taken = hist-none log;
       reports = none-reported o;
       words = indexed-clear (zeros (length work) refl);

@@ -19,6 +19,7 @@ use Rattle.intake.specs.Words.{Indexed}
 use Rattle.intake.specs.Takes.{PreviewsIn}
 use Rattle.intake.specs.WorkArea.{workOf}
 use Rattle.intake.proofs.Decisions.{after-sound}
+use Rattle.intake.specs.Refusals.{refusalAfter}
 use Rattle.judge.specs.declared.opening.Opened.{Opened}
 use Rattle.judge.specs.declared.preview.Previewed.{Previewed}
 use Rattle.judge.specs.declared.state.Judge.{Judge}
@@ -26,7 +27,7 @@ use Rattle.judge.specs.declared.ticket.Ticket.{Ticket}
 use Rattle.judge.specs.Tickets.{ticketOf, noTicket}
 use Rattle.judge.specs.Openings.{Fits, Opens}
 use Rattle.judge.specs.States.{State, pushRefusal, commitRefusal, takes}
-use Rattle.judge.specs.Calls.{Call, push, commit, preview, refusalAfter, afterCall, takenOf, erased}
+use Rattle.judge.specs.Calls.{Call, push, commit, preview, afterCall, takenOf, erased}
 use Rattle.judge.specs.Runs.{After, Taken, Takes, Pushed, Called, Run, none, more, stateOf}
 use Rattle.judge.specs.Previews.{refusedReports, ticketFor, Previews, PreviewedBy, Shown}
 use Rattle.judge.proofs.Pushes.{RowsOf, reports-more}
@@ -37,7 +38,7 @@ use Rattle.judge.proofs.WorkAfter.{after-words}
 -- ---- what the core's answer shows
 
 module _ (j : Judge) (log work rows bytes : List ℕ) {r : ℕ} {rows′ : List ℕ} (are : RowsOf j rows)
-    (p : PreviewsIn (j .opening) (j .capacity) (j .count) log work rows bytes r rows′) where
+    (p : PreviewsIn (j .opening) (j .capacity) (j .count) (j .events) log work rows bytes r rows′) where
   number : r ≡ pushRefusal (stateOf j log work) bytes
   unfolding pushRefusal
   number = p .refusal
@@ -84,7 +85,7 @@ module _ (h : History) (s : State) (a : After Indexed h s) (bytes : List ℕ) {n
   present-reports e =
       let r : pushRefusal s bytes ≡ refusalAfter (s .judge .capacity) h bytes = refusal-is Indexed h s bytes a in
       let f : eqb (pushRefusal s bytes) 5 ≡ false =
-      ne-eqb (pushRefusal s bytes) 5 (λ x. after-sound bytes (s .judge .capacity) (length h) (sym r ∙ x)) in
+      ne-eqb (pushRefusal s bytes) 5 (λ x. after-sound bytes (s .judge .capacity) h (sym r ∙ x)) in
       p .present e ∙ ap (λ (b : Bool). cond b (replicate checkCount passed) (s .judge .reports)) f
 
   would-by : (b : Bool) → takes s bytes ≡ b → rs ≡ reportsOf (s .judge .opening) (cond b (decode bytes ∷ h) h)
@@ -151,12 +152,13 @@ module _ (h : History) (s : State) (a : After Indexed h s) where
       let cap : t .judge .capacity ≡ u .judge .capacity = p .capacity ∙ sym (q .capacity) in
       let opening : t .judge .opening ≡ u .judge .opening = p .opening ∙ sym (q .opening) in
       let count : t .judge .count ≡ u .judge .count = p .count ∙ sym (q .count) in
+      let events : t .judge .events ≡ u .judge .events = p .events-are ∙ sym (q .events-are) in
       let reports : t .judge .reports ≡ u .judge .reports =
       b .reports ∙ ap (λ (i : Opening). reportsOf i (decode bytes ∷ h)) opening ∙ sym (d .reports) in
       let log : t .log ≡ u .log = appended-one (p .log) (q .log) in
       let work : t .work ≡ u .work =
       after-words (decode bytes ∷ h) t b ∙ ap (λ (c : ℕ). workOf c (decode bytes ∷ h)) cap ∙ sym (after-words (decode bytes ∷ h) u d) in
-      λ i. stateOf (record { capacity = cap i; count = count i; opening = opening i; reports = reports i }) (log i) (work i)
+      λ i. stateOf (record { capacity = cap i; count = count i; events = events i; opening = opening i; reports = reports i }) (log i) (work i)
 
   takes-one : (bytes : List ℕ) (r : ℕ) {t u : State} → Takes Indexed r s bytes t → Takes Indexed r s bytes u → (b : Bool) → eqb r 0 ≡ b → t ≡ u
   takes-one bytes r p q true e = taken-one bytes (p .taken e) (q .taken e)

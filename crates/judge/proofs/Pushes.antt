@@ -1,19 +1,19 @@
 -- What a push that is not refused leaves: where the state was the one after the records taken, the state after one more.
 -- Assumes nothing.
 use mathlib.Core.Path.{_≡_, refl, sym, ap, _∙_, subst}
-use mathlib.Core.Bool.{true, false}
+use mathlib.Core.Bool.{true}
 use mathlib.Core.List.{List, [], _∷_, map}
-use Prim.Native.Nat.{ℕ, suc, _+_, _*_, _≤_}
+use Prim.Native.Nat.{ℕ, suc, _+_, _*_}
 use native.Mathlib.Omega.{arith}
 use lib.ListN.{length, replicate}
 use lib.Dec.{eqb}
 use borrow.Author.Tests.{ne-eqb}
 use Rattle.record.specs.Records.{decode}
 use Rattle.rules.specs.declared.Opening.{Opening}
-use Rattle.rules.specs.declared.Report.{Report}
 use Rattle.rules.specs.declared.Verdict.{Verdict}
 use Rattle.rules.specs.declared.Verdict.the-variants.{Pass, Faulted}
 use Rattle.rules.specs.History.{History}
+use Rattle.rules.specs.Events.{events}
 use Rattle.rules.specs.Checks.{Check, checks, checkCount, caseAt, reportBy, reportsOf, Every}
 use Rattle.rules.proofs.Booleans.{never}
 use Rattle.rules.proofs.CaseKinds.{CaseKinds, case-kinds, VerdictWithin, report-kinds}
@@ -22,13 +22,14 @@ use Rattle.rows.proofs.Rows.{length-rows, sets-all}
 use Rattle.rows.proofs.ReadBack.{ReadsBack, AllRead, rows-read, rows-back, fit-rows}
 use Rattle.history.specs.Logs.{hist}
 use Rattle.history.proofs.Logs.{appended-hist}
-use Rattle.intake.specs.Refusals.{pushRefusalBy}
+use Rattle.events.specs.Numbers.{eventIn}
+use Rattle.events.proofs.Numbers.{event-is}
 use Rattle.intake.specs.Words.{Indexed}
 use Rattle.intake.specs.Takes.{JudgedAs, TakenIn, TakesIn}
 use Rattle.intake.proofs.Suiting.{suits-by}
 use Rattle.intake.proofs.Decisions.{Room, room-of}
 use Rattle.judge.specs.declared.state.Judge.{Judge}
-use Rattle.judge.specs.States.{State, suits, pushRefusal, takes}
+use Rattle.judge.specs.States.{State, suits, pushRefusal}
 use Rattle.judge.specs.Runs.{After, Taken, Pushed, stateOf}
 use Rattle.judge.specs.Traces.{judgeBy}
 
@@ -82,21 +83,23 @@ held-indexed h s a = subst (λ (z : History). Indexed (s .judge .capacity) z (s 
 
 -- the rows that the judging of a record leaves are read as the reports of the records with this one more
 module _ (j : Judge) (log work rows bytes : List ℕ) {rows′ : List ℕ} (are : RowsOf j rows)
-    (judged : JudgedAs (j .opening) (j .capacity) (j .count) log work rows bytes rows′) where
+    (judged : JudgedAs (j .opening) (j .capacity) (j .count) (j .events) log work rows bytes rows′) where
   pub reports-more : (h : History) → After Indexed h (stateOf j log work) → reportsIn rows′ 0 ≡ reportsOf (j .opening) (decode bytes ∷ h)
   reports-more h a =
       let o = j .opening in
       let x = decode bytes in
       let t : hist log (j .count) ≡ h = held-taken h (stateOf j log work) a in
+      let e : j .events ≡ events (hist log (j .count)) = a .events-are ∙ ap events (sym t) in
       let r : rows′ ≡ rowsOf (reportsOf o (x ∷ h)) =
-      judged (held-indexed h (stateOf j log work) a) (are (hist log (j .count)) (a .reports ∙ ap (reportsOf o) (sym t)))
+      judged (held-indexed h (stateOf j log work) a) e (are (hist log (j .count)) (a .reports ∙ ap (reportsOf o) (sym t)))
       ∙ ap (λ (z : History). rowsOf (reportsOf o (x ∷ z))) t in
       ap (λ (w : List ℕ). reportsIn w 0) r ∙ reports-back o (x ∷ h)
 
 module _ (j : Judge) (log work rows bytes : List ℕ) {log′ work′ rows′ : List ℕ} (are : RowsOf j rows)
-    (y : Room (j .capacity) (j .count) log work bytes) (k : TakenIn (j .opening) (j .capacity) (j .count) log work rows bytes log′ work′ rows′) where
+    (y : Room (j .capacity) (j .count) log work bytes)
+    (k : TakenIn (j .opening) (j .capacity) (j .count) (j .events) log work rows bytes log′ work′ rows′) where
   abbrev pub nextOf : Judge
-  nextOf = judgeBy (j .opening) (j .capacity) (j .count + 1) rows′
+  nextOf = judgeBy (j .opening) (j .capacity) (j .count + 1) (eventIn (j .events) (decode bytes)) rows′
 
   fits-more : suits (stateOf nextOf log′ work′) ≡ true
   unfolding suits
@@ -113,21 +116,32 @@ module _ (j : Judge) (log work rows bytes : List ℕ) {log′ work′ rows′ : 
       let n : j .count ≡ length h = a .count in
       let t : hist log (j .count) ≡ h = held-taken h (stateOf j log work) a in
       let m : suc (length h) ≡ j .count + 1 = omega arith in
+      let b = y .suits .small in
+      let d = y .room in
       record {
         fits = fits-more;
         count = sym m;
+        events-are = event-is (j .events) x h (a .events-are) (omega arith);
         taken = ap (hist log′) m ∙ appended-hist (k .appended) ∙ ap (λ (z : History). x ∷ z) t;
         reports = reports-more j log work rows bytes are (k .judged) h a;
         words = subst (λ (z : History). Indexed (j .capacity) (x ∷ z) work′) t (k .noted .indexed (held-indexed h (stateOf j log work) a));
       }
 
   took : Taken Indexed (stateOf j log work) bytes (stateOf nextOf log′ work′)
-  took = record { capacity = refl; opening = refl; count = refl; log = k .appended; work = k .noted .len; after = after-more }
+  took = record {
+    capacity = refl;
+    opening = refl;
+    count = refl;
+    events-are = refl;
+    log = k .appended;
+    work = k .noted .len;
+    after = after-more;
+  }
 
 -- ---- a push
 
 module _ (j : Judge) (log work rows bytes : List ℕ) {r : ℕ} {log′ work′ rows′ : List ℕ} (are : RowsOf j rows)
-    (t : TakesIn (j .opening) (j .capacity) (j .count) log work rows bytes r log′ work′ rows′) where
+    (t : TakesIn (j .opening) (j .capacity) (j .count) (j .events) log work rows bytes r log′ work′ rows′) where
   pub push-number : r ≡ pushRefusal (stateOf j log work) bytes
   unfolding pushRefusal
   push-number = t .refusal
@@ -136,7 +150,9 @@ module _ (j : Judge) (log work rows bytes : List ℕ) {r : ℕ} {log′ work′ 
   has-room z = room-of (sym (t .refusal) ∙ z)
 
   -- a push that takes its record
-  pub push-taken : r ≡ 0 → Pushed Indexed (stateOf j log work) bytes (stateOf (judgeBy (j .opening) (j .capacity) (j .count + 1) rows′) log′ work′)
+  pub push-taken : r ≡ 0
+      → Pushed Indexed (stateOf j log work) bytes
+      (stateOf (judgeBy (j .opening) (j .capacity) (j .count + 1) (eventIn (j .events) (decode bytes)) rows′) log′ work′)
   push-taken z = record {
     refused = λ q. never (ap (λ (n : ℕ). eqb n 0) (sym push-number ∙ z)) q;
     taken = λ q. took j log work rows bytes are (has-room z) (t .taken z);
@@ -152,5 +168,5 @@ module _ (j : Judge) (log work rows bytes : List ℕ) {r : ℕ} {log′ work′ 
       }
 
 -- the rows of a judge that is read from them
-pub rows-own : (o : Opening) (cap n : ℕ) (rows : List ℕ) → length rows ≡ 56 → RowsOf (judgeBy o cap n rows) rows
-rows-own o cap n rows s h e = rows-read rows s ∙ ap rowsOf e
+pub rows-own : (o : Opening) (cap n e : ℕ) (rows : List ℕ) → length rows ≡ 56 → RowsOf (judgeBy o cap n e rows) rows
+rows-own o cap n e rows s h q = rows-read rows s ∙ ap rowsOf q

@@ -6,13 +6,15 @@ use mathlib.Core.Logic.{⊎-elim}
 use Prim.Native.Nat.{ℕ, _+_, _*_, _-_, _≤_, _<_}
 use native.Mathlib.Omega.{arith}
 use native.Mathlib.Nat.{eq-or-lt-of-le}
-use lib.ListN.{length, getD, take, drop, replicate, length-drop, drop-of-length-le, getD-replicate}
+use lib.ListN.{length, take, drop, replicate, length-drop, drop-of-length-le, getD-replicate}
 use lib.Seq.{take-all, drop-drop}
 use lib.Dec.{eqb}
 use borrow.Author.Tests.{ne-eqb}
 use Rattle.record.proofs.Keys.{never}
+use Rattle.record.specs.Records.{decode}
 use Rattle.rules.specs.declared.Opening.{Opening}
 use Rattle.rows.specs.Rows.{reportIn, reportsFrom, KindsFit}
+use Rattle.events.specs.Numbers.{eventIn}
 use Rattle.judge.specs.declared.opening.Opened.{Opened}
 use Rattle.judge.specs.declared.trace.Traced.{Traced}
 use Rattle.judge.specs.declared.state.Judge.{Judge}
@@ -42,33 +44,36 @@ module _ (t : List ℕ) (at e : ℕ) (h : (at < e) × (e ≤ length t) × (e ≤
       (eq-or-lt-of-le (h .1))
 
 -- the trace's next record, taken or refused by numbers and rows
-module _ (o : Opening) (cap n : ℕ) (log work rows : List ℕ) {log′ work′ rows′ bytes : List ℕ} {r : ℕ} (trace : List ℕ) (some : 0 < length trace)
-    (part : bytes ≡ take 368 trace) (size : length rows ≡ 56) (p : TakesIn o cap n log work rows bytes r log′ work′ rows′) where
+module _ (o : Opening) (cap n e : ℕ) (log work rows : List ℕ) {log′ work′ rows′ bytes : List ℕ} {r : ℕ} (trace : List ℕ) (some : 0 < length trace)
+    (part : bytes ≡ take 368 trace) (size : length rows ≡ 56) (p : TakesIn o cap n e log work rows bytes r log′ work′ rows′) where
   abbrev here : State
-  here = stateOf (judgeBy o cap n rows) log work
+  here = stateOf (judgeBy o cap n e rows) log work
 
   number-is : r ≡ pushRefusal here (take 368 trace)
   unfolding pushRefusal
-  number-is = p .refusal ∙ ap (pushRefusalBy cap n (length log) (length work)) part
+  number-is = p .refusal ∙ ap (pushRefusalBy cap n log (length work)) part
 
-  -- taken, and the rest follows
-  pub feeds-on : {f a : ℕ} {t : State} → r ≡ 0 → Feeds (stateOf (judgeBy o cap (n + 1) rows′) log′ work′) (drop 368 trace) (n + 1) f a t
-      → Feeds here trace n f a t
-  feeds-on z w =
-      let u = push-taken (judgeBy o cap n rows) log work rows bytes (rows-own o cap n rows size) p z in
+  -- taken, and the rest follows, after as many events as there are with this record
+  pub feeds-on : {e′ f a : ℕ} {t : State} → r ≡ 0 → e′ ≡ eventIn e (decode bytes)
+      → Feeds (stateOf (judgeBy o cap (n + 1) e′ rows′) log′ work′) (drop 368 trace) (n + 1) f a t → Feeds here trace n f a t
+  feeds-on {e′} z q w =
+      let u = push-taken (judgeBy o cap n e rows) log work rows bytes (rows-own o cap n e rows size) p z in
+      let v : Pushed Indexed here bytes (stateOf (judgeBy o cap (n + 1) e′ rows′) log′ work′) =
+      subst (λ (m : ℕ). Pushed Indexed here bytes (stateOf (judgeBy o cap (n + 1) m rows′) log′ work′)) (sym q) u in
       taken some (ap (λ (m : ℕ). eqb m 0) (sym number-is ∙ z))
-      (subst (λ (b : List ℕ). Pushed Indexed here b (stateOf (judgeBy o cap (n + 1) rows′) log′ work′)) part u) w
+      (subst (λ (b : List ℕ). Pushed Indexed here b (stateOf (judgeBy o cap (n + 1) e′ rows′) log′ work′)) part v) w
 
   -- refused: everything is as it stood
-  pub feeds-off : (r ≡ 0 → ⊥) → Feeds here trace n r (n + 1) (stateOf (judgeBy o cap n rows′) log′ work′)
+  pub feeds-off : (r ≡ 0 → ⊥) → Feeds here trace n r (n + 1) (stateOf (judgeBy o cap n e rows′) log′ work′)
   feeds-off z =
-      let e = p .refused z in
+      let same = p .refused z in
       let q : takes here (take 368 trace) ≡ false = ap (λ (m : ℕ). eqb m 0) (sym number-is) ∙ ne-eqb r 0 z in
-      let s : here ≡ stateOf (judgeBy o cap n rows′) log′ work′ = λ i. stateOf (judgeBy o cap n (sym (e .2) i)) (sym (e .0) i) (sym (e .1) i) in
+      let s : here ≡ stateOf (judgeBy o cap n e rows′) log′ work′ =
+      λ i. stateOf (judgeBy o cap n e (sym (same .2) i)) (sym (same .0) i) (sym (same .1) i) in
       subst (Feeds here trace n r (n + 1)) s (refused some q number-is)
 
 -- a judge that has taken nothing has rows of zeros
-pub fresh-rows : (c : ℕ) (o : Opening) → judgeBy o c 0 (replicate 56 0) ≡ freshOf c o
+pub fresh-rows : (c : ℕ) (o : Opening) → judgeBy o c 0 0 (replicate 56 0) ≡ freshOf c o
 unfolding reportsFrom reportIn
 fresh-rows c o = refl
 
@@ -78,14 +83,14 @@ zeros-fit = record { kind = λ k l. let e = getD-replicate {A = ℕ} 56 (0 + 7 *
 -- an opening that is not refused, and what the trace comes to from there; or one that is
 module _ (n : Opening) (log work trace : List ℕ) (o : Opened) {work₁ : List ℕ} (p : Opens n (length log) work o work₁) where
   pub traced-on : {log′ work′ : List ℕ} (r : Traced) → o .refusal ≡ Nothing
-      → Feeds (stateOf (judgeBy (o .judge .opening) (o .judge .capacity) 0 (replicate 56 0)) log work₁) trace 0 (refusalNumber (r .refusal)) (r .at)
+      → Feeds (stateOf (judgeBy (o .judge .opening) (o .judge .capacity) 0 0 (replicate 56 0)) log work₁) trace 0 (refusalNumber (r .refusal)) (r .at)
       (stateOf (r .judge) log′ work′)
       → TracedBy n log work trace r log′ work′
   traced-on {log′} {work′} r e w = record {
     refused = λ none. let x = p .refused none .0 in let y = ap refusalNumber e in absurd (omega arith);
     opened = λ c f.
         let q = p .opened c f in
-        let j = ap (λ (j : Judge). judgeBy (j .opening) (j .capacity) 0 (replicate 56 0)) (q .1) ∙ fresh-rows c n in
+        let j = ap (λ (j : Judge). judgeBy (j .opening) (j .capacity) 0 0 (replicate 56 0)) (q .1) ∙ fresh-rows c n in
         subst (λ (s : State). Feeds s trace 0 (refusalNumber (r .refusal)) (r .at) (stateOf (r .judge) log′ work′)) (λ i. stateOf (j i) log (q .2 i)) w;
   }
 

@@ -4,10 +4,9 @@ use mathlib.Core.List.{List, [], _∷_}
 use Prim.Native.Nat.{ℕ}
 use lib.ListN.{length}
 use lib.Dec.{eqb}
-use Rattle.record.specs.Form.{refusalOf}
 use Rattle.record.specs.Records.{decode}
 use Rattle.rules.specs.History.{History}
-use Rattle.intake.specs.Refusals.{orFull}
+use Rattle.intake.specs.Refusals.{refusalAfter}
 use Rattle.judge.specs.declared.ticket.Ticket.{Ticket}
 
 -- a call, with whatever bytes or ticket it is given
@@ -16,12 +15,8 @@ pub data Call : Type 0 where
   commit : Ticket → Call
   preview : List ℕ → Call
 
--- what the table gives a push of these bytes in a judge of this capacity that has taken the records of h
-abbrev pub refusalAfter : ℕ → History → List ℕ → ℕ
-refusalAfter cap h bytes = orFull (refusalOf bytes) cap (length h)
-
--- .. and a call. A commit: "Refusal 10 .. is given where the ticket's count is not the judge's; a push's other checks then follow"; a
--- preview "refuses exactly as a push of that record would"
+-- what the table gives a call in a judge of this capacity that has taken the records of h. A commit: "Refusal 10 .. is given where the
+-- ticket's count is not the judge's; a push's other checks then follow"; a preview "refuses exactly as a push of that record would"
 abbrev pub callRefusal : ℕ → History → Call → ℕ
 callRefusal cap h (push bytes) = refusalAfter cap h bytes
 callRefusal cap h (commit k) = cond (eqb (k .count) (length h)) (refusalAfter cap h (k .rec)) 10

@@ -19,7 +19,7 @@ pub record Fits (logs words c : ℕ) : Type 0 where
 
 -- "count 0 and eight passes"
 abbrev pub freshOf : ℕ → Opening → Judge
-freshOf capacity opening = record { capacity = capacity; count = 0; opening = opening; reports = replicate checkCount passed }
+freshOf capacity opening = record { capacity = capacity; count = 0; events = 0; opening = opening; reports = replicate checkCount passed }
 
 -- what an opening gives. Refusal 7: "for no C in 1 to 4,096 is the log 368 × C bytes and the work area 32 × C words"; then "a
 -- judge with C 0, count 0, the tenant given and eight passes", and the work area as it stood. Else "count 0 and eight passes,

@@ -11,6 +11,7 @@ use Rattle.rules.specs.declared.Report.{Report}
 use Rattle.rules.specs.History.{History}
 use Rattle.rules.specs.Reports.{passed}
 use Rattle.rules.specs.Checks.{checkCount, reportsOf}
+use Rattle.intake.specs.Refusals.{refusalAfter}
 use Rattle.intake.specs.Words.{Indexed}
 use Rattle.judge.specs.declared.preview.Previewed.{Previewed}
 use Rattle.judge.specs.declared.push.Pushed as Answer
@@ -18,7 +19,7 @@ use Rattle.judge.specs.declared.state.Judge.{Judge}
 use Rattle.judge.specs.declared.ticket.Ticket.{Ticket}
 use Rattle.judge.specs.Tickets.{ticketOf, noTicket}
 use Rattle.judge.specs.States.{State, refusalNumber, pushRefusal, commitRefusal, takes}
-use Rattle.judge.specs.Calls.{push, refusalAfter, afterCall}
+use Rattle.judge.specs.Calls.{push, afterCall}
 use Rattle.judge.specs.Runs.{After, Committed, stateOf}
 
 -- under a refusal: "the present reports (eight passes under 5)"

@@ -11,9 +11,11 @@ use Rattle.rules.specs.declared.Opening.{Opening}
 use Rattle.rules.specs.declared.Report.{Report}
 use Rattle.rules.specs.declared.Verdict.the-variants.{Faulted}
 use Rattle.rules.specs.History.{History}
+use Rattle.rules.specs.Events.{events}
 use Rattle.rules.specs.Reports.{passed, Right}
 use Rattle.rules.specs.Checks.{checkCount, checkAt, HasBy, caseAt, reportsOf}
 use Rattle.history.specs.Logs.{hist, Appended}
+use Rattle.events.specs.Numbers.{eventIn}
 use Rattle.intake.specs.Words.{Indexed}
 use Rattle.judge.specs.declared.push.Pushed as Answer
 use Rattle.judge.specs.declared.state.Judge.{Judge}
@@ -30,16 +32,18 @@ module _ (Indexed : Indexing) where
   pub record After (h : History) (s : State) : Type 0 where
     pub fits : suits s ≡ true
     pub count : s .judge .count ≡ length h
+    pub events-are : s .judge .events ≡ events h
     pub taken : hist (s .log) (length h) ≡ h
     pub reports : s .judge .reports ≡ reportsOf (s .judge .opening) h
     pub words : Indexed (s .judge .capacity) h (s .work)
 
-  -- what a push that takes its record leaves: the record in the log and no other byte of it changed, one more in the count, and
-  -- the state after one more record where it was the state after those taken
+  -- what a push that takes its record leaves: the record in the log and no other byte of it changed, one more in the count and, unless
+  -- the record continues, in the events, and the state after one more record where it was the state after those taken
   pub record Taken (s : State) (bytes : List ℕ) (t : State) : Type 0 where
     pub capacity : t .judge .capacity ≡ s .judge .capacity
     pub opening : t .judge .opening ≡ s .judge .opening
     pub count : t .judge .count ≡ s .judge .count + 1
+    pub events-are : t .judge .events ≡ eventIn (s .judge .events) (decode bytes)
     pub log : Appended (s .log) (t .log) (s .judge .count) bytes
     pub work : length (t .work) ≡ length (s .work)
     pub after : (h : History) → After h s → After (decode bytes ∷ h) t
@@ -80,7 +84,7 @@ pub record PushedBy (j : Judge) (log work bytes : List ℕ) (r : Answer.Pushed) 
 abbrev pub reportAt : ℕ → State → Report
 reportAt k s = getD (s .judge .reports) k passed
 
--- one check's claim: its report is right for the records taken, each way; and after a fault, whatever is called, it stays
+-- one check's claim: its report is right for the records taken, by events, each way; and after a fault, whatever is called, it stays
 pub record Claim (Indexed : Indexing) (has : History → Type 0) (caseAt : History → Case) (k : ℕ) (h : History) (t : State) : Type 0 where
   pub right : Right has caseAt h (reportAt k t)
   pub stays : (kind : ℕ) → reportAt k t .verdict ≡ Faulted kind → (cs : List Call) (u : State) → Run Indexed t cs u → reportAt k u ≡ reportAt k t

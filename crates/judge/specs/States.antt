@@ -7,7 +7,8 @@ use lib.Dec.{eqb}
 use Rattle.intake.specs.Refusals.{suitsBy, pushRefusalBy}
 use Rattle.judge.specs.declared.state.Judge.{Judge}
 use Rattle.judge.specs.declared.state.Refusal.{Refusal}
-use Rattle.judge.specs.declared.state.Refusal.the-variants.{Nothing, Length, Kind, Value, Unused, Judge as Unfit, Full, Opening, Output, Ticket as Stale}
+use Rattle.judge.specs.declared.state.Refusal.the-variants.{Nothing, Length, Kind, Value, Unused, Judge as Unfit, Full, Opening, Output}
+use Rattle.judge.specs.declared.state.Refusal.the-variants.{Ticket as Stale, Event}
 use Rattle.judge.specs.declared.ticket.Ticket.{Ticket}
 
 -- a judge with the log and the work area that it is lent
@@ -28,12 +29,13 @@ refusalNumber Full = 6
 refusalNumber Opening = 7
 refusalNumber Output = 8
 refusalNumber Stale = 10
+refusalNumber Event = 11
 
 unfoldable pub suits : State → Bool
 suits s = suitsBy (s .judge .capacity) (s .judge .count) (length (s .log)) (length (s .work))
 
 unfoldable pub pushRefusal : State → List ℕ → ℕ
-pushRefusal s bytes = pushRefusalBy (s .judge .capacity) (s .judge .count) (length (s .log)) (length (s .work)) bytes
+pushRefusal s bytes = pushRefusalBy (s .judge .capacity) (s .judge .count) (s .log) (length (s .work)) bytes
 
 -- "A record is taken where the table gives its push no refusal"
 abbrev pub takes : State → List ℕ → Bool

@@ -2,7 +2,7 @@
 use mathlib.Core.Path.{_≡_}
 use mathlib.Core.Bool.{true, false}
 use mathlib.Core.List.{List}
-use Prim.Native.Nat.{ℕ, _+_, _<_, _≤_}
+use Prim.Native.Nat.{ℕ, _+_, _<_}
 use lib.ListN.{length, take, drop, replicate}
 use Rattle.rules.specs.declared.Opening.{Opening}
 use Rattle.rows.specs.Rows.{reportsIn, KindsFit}
@@ -10,6 +10,7 @@ use Rattle.judge.specs.declared.state.Judge.{Judge}
 use Rattle.judge.specs.declared.trace.Traced.{Traced}
 use Rattle.judge.specs.States.{State, refusalNumber, pushRefusal, takes}
 use Rattle.judge.specs.Openings.{Fits, freshOf}
+use Rattle.intake.specs.Refusals.{PushNumber}
 use Rattle.intake.specs.Words.{Indexed}
 use Rattle.judge.specs.Runs.{Pushed, stateOf}
 
@@ -23,15 +24,16 @@ pub data Feeds : State → List ℕ → ℕ → ℕ → ℕ → State → Type 0
       → Pushed Indexed s (take 368 trace) u → Feeds u (drop 368 trace) (n + 1) f a t → Feeds s trace n f a t
 
 -- the judge of these numbers whose reports are those of the rows
-abbrev pub judgeBy : Opening → ℕ → ℕ → List ℕ → Judge
-judgeBy o cap n rows = record { capacity = cap; count = n; opening = o; reports = reportsIn rows 0 }
+abbrev pub judgeBy : Opening → ℕ → ℕ → ℕ → List ℕ → Judge
+judgeBy o cap n e rows = record { capacity = cap; count = n; events = e; opening = o; reports = reportsIn rows 0 }
 
--- what a trace's bytes come to from a judge that has taken nothing: a refusal's number at a record's, and so many records taken
-pub record FedBy (o : Opening) (cap : ℕ) (log work rows trace : List ℕ) (f at n : ℕ) (log′ work′ rows′ : List ℕ) : Type 0 where
-  pub feeds : Feeds (stateOf (judgeBy o cap 0 rows) log work) trace 0 f at (stateOf (judgeBy o cap n rows′) log′ work′)
+-- what a trace's bytes come to from a judge that has taken nothing: a refusal's number at a record's, and so many records taken, of so
+-- many events
+pub record FedBy (o : Opening) (cap : ℕ) (log work rows trace : List ℕ) (f at n e : ℕ) (log′ work′ rows′ : List ℕ) : Type 0 where
+  pub feeds : Feeds (stateOf (judgeBy o cap 0 0 rows) log work) trace 0 f at (stateOf (judgeBy o cap n e rows′) log′ work′)
   pub size : length rows′ ≡ length rows
   pub fits : KindsFit rows 0 → KindsFit rows′ 0
-  pub few : f ≤ 6
+  pub few : PushNumber f
 
 -- "A whole-trace call opens, then pushes up to its first refusal, which it returns with that record's number (0 for the
 -- opening's); earlier records remain taken". Without a refusal the number is that of the last record

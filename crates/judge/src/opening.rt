@@ -35,6 +35,7 @@ impl Judge {
         Self {
             capacity: capacity,
             count: 0,
+            events: 0,
             opening: opening,
             reports: [pass(); CHECKS],
         }

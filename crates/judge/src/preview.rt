@@ -45,7 +45,16 @@ impl Judge {
         let reports = self.reports;
         let mut rows = [0u64; ROWS];
         write_rows(&mut rows, 0, reports);
-        let refusal = preview(log, work, &mut rows, n, cap, opening.tenant, rec);
+        let refusal = preview(
+            log,
+            work,
+            &mut rows,
+            n,
+            self.events,
+            cap,
+            opening.tenant,
+            rec,
+        );
         if refusal != 0 {
             return Previewed {
                 refusal: refusal_of(refusal),

@@ -2,6 +2,7 @@
 use crate::state::Judge;
 use crate::state::Refusal;
 use crate::state::refusal_of;
+use events::event_after;
 use intake::take::take;
 use rows::ROWS;
 use rows::read_rows;
@@ -20,12 +21,13 @@ impl Judge {
         ensures { λ r. ⌜ PushedBy self (now (log .entry)) (now (work .entry)) (now (rec .entry)) r (now (log .exit)) (now (work .exit)) ⌝ }
     {
         let n = self.count;
+        let events = self.events;
         let cap = self.capacity;
         let opening = self.opening;
         let reports = self.reports;
         let mut rows = [0u64; ROWS];
         write_rows(&mut rows, 0, reports);
-        let refusal = take(log, work, &mut rows, n, cap, opening.tenant, rec);
+        let refusal = take(log, work, &mut rows, n, events, cap, opening.tenant, rec);
         if refusal != 0 {
             return Pushed {
                 refusal: refusal_of(refusal),
@@ -38,6 +40,7 @@ impl Judge {
             judge: Judge {
                 capacity: cap,
                 count: n + 1,
+                events: event_after(events, rec),
                 opening: opening,
                 reports: next,
             },

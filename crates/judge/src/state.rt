@@ -5,8 +5,7 @@ use rules::CHECKS;
 use rules::Opening;
 use rules::Report;
 ghost use mathlib.Core.Path.{_≡_};
-ghost use Prim.Native.Nat.{_≤_};
-ghost use Rattle.intake.specs.Refusals.{fitsBy, suitsBy};
+ghost use Rattle.intake.specs.Refusals.{fitsBy, suitsBy, PushNumber};
 ghost use Rattle.judge.specs.States.{refusalNumber};
 
 // Why a call was refused, or that it was not.
@@ -21,12 +20,14 @@ pub enum Refusal {
     Opening,
     Output,
     Ticket,
+    Event,
 }
 
-// A judge: its capacity, how many records it has taken, the opening's numbers, and the reports in printing order.
+// A judge: its capacity, how many records it has taken, of how many events, the opening's numbers, and the reports in printing order.
 pub struct Judge {
     pub capacity: usize,
     pub count: usize,
+    pub events: u64,
     pub opening: Opening,
     pub reports: [Report; CHECKS],
 }
@@ -37,7 +38,7 @@ pub struct Tested {
     pub judge: Judge,
 }
 
-// Document 01's number of a refusal, 0 where there was none.
+// Document 01's and 02's number of a refusal, 0 where there was none.
 pub fn number_of(refusal: Refusal) -> u64
     ensures { λ r. ⌜ r ≡ refusalNumber refusal ⌝ }
 {
@@ -52,12 +53,13 @@ pub fn number_of(refusal: Refusal) -> u64
         Refusal::Opening => 7,
         Refusal::Output => 8,
         Refusal::Ticket => 10,
+        Refusal::Event => 11,
     }
 }
 
 // The refusal of a number that a push has.
 pub(crate) fn refusal_of(number: u64) -> Refusal
-    requires { ⌜ number ≤ 6 ⌝ }
+    requires { ⌜ PushNumber number ⌝ }
     ensures { λ r. ⌜ refusalNumber r ≡ number ⌝ }
 {
     match number {
@@ -67,7 +69,8 @@ pub(crate) fn refusal_of(number: u64) -> Refusal
         3 => Refusal::Value,
         4 => Refusal::Unused,
         5 => Refusal::Judge,
-        _ => Refusal::Full,
+        6 => Refusal::Full,
+        _ => Refusal::Event,
     }
 }
 

@@ -2,6 +2,7 @@
 use crate::state::Judge;
 use crate::state::Refusal;
 use crate::state::refusal_of;
+use events::event_after;
 use intake::keep::keep;
 use intake::preview::preview;
 use rows::ROWS;
@@ -22,11 +23,12 @@ pub struct Traced {
     pub judge: Judge,
 }
 
-// What a trace's records came to: the number of the first refusal and of its record, and how many were taken.
+// What a trace's records came to: the number of the first refusal and of its record, how many were taken, and of how many events.
 struct Fed {
     refusal: u64,
     at: usize,
     count: usize,
+    events: u64,
 }
 
 // Where the record that starts at `at` ends: 368 bytes on, or at the trace's end.
@@ -50,22 +52,25 @@ fn feed(
     trace: &[u8],
 ) -> Fed
     requires { ⌜ length (now rows) ≡ rowsSize ⌝ }
-    ensures { λ r. ⌜ FedBy (record { tenant = tenant }) cap (now (log .entry)) (now (work .entry)) (now (rows .entry)) (now (trace .entry)) (r .refusal) (r .at) (r .count) (now (log .exit)) (now (work .exit)) (now (rows .exit)) ⌝ }
+    ensures { λ r. ⌜ FedBy (record { tenant = tenant }) cap (now (log .entry)) (now (work .entry)) (now (rows .entry)) (now (trace .entry)) (r .refusal) (r .at) (r .count) (r .events) (now (log .exit)) (now (work .exit)) (now (rows .exit)) ⌝ }
 {
     let mut at: usize = 0;
     let mut n: usize = 0;
+    let mut events: u64 = 0;
     while at < trace.len() {
         let end = record_end(at, trace.len());
         let rec = &trace[at..end];
-        let refusal = preview(log, work, rows, n, cap, tenant, rec);
+        let refusal = preview(log, work, rows, n, events, cap, tenant, rec);
         if refusal != 0 {
             return Fed {
                 refusal: refusal,
                 at: n + 1,
                 count: n,
+                events: events,
             };
         }
         keep(log, work, n, cap, rec);
+        events = event_after(events, rec);
         n += 1;
         at = end;
     }
@@ -73,6 +78,7 @@ fn feed(
         refusal: 0,
         at: n,
         count: n,
+        events: events,
     }
 }
 
@@ -96,7 +102,7 @@ impl Judge {
 
     // The judge, which has taken nothing, after a trace's records.
     fn fed(self, log: &mut [u8], work: &mut [u64], trace: &[u8]) -> Traced
-        ensures { λ r. ⌜ Feeds (stateOf (judgeBy (self .opening) (self .capacity) 0 (replicate rowsSize 0)) (now (log .entry)) (now (work .entry))) (now (trace .entry)) 0 (refusalNumber (r .refusal)) (r .at) (stateOf (r .judge) (now (log .exit)) (now (work .exit))) ⌝ }
+        ensures { λ r. ⌜ Feeds (stateOf (judgeBy (self .opening) (self .capacity) 0 0 (replicate rowsSize 0)) (now (log .entry)) (now (work .entry))) (now (trace .entry)) 0 (refusalNumber (r .refusal)) (r .at) (stateOf (r .judge) (now (log .exit)) (now (work .exit))) ⌝ }
     {
         let cap = self.capacity;
         let opening = self.opening;
@@ -109,6 +115,7 @@ impl Judge {
             judge: Judge {
                 capacity: cap,
                 count: f.count,
+                events: f.events,
                 opening: opening,
                 reports: reports,
             },

@@ -89,7 +89,10 @@ fn full(kind: u8) -> [u8; 368] {
         9 => ends(rec, 8, 15),
         11 => ends(rec, 8, 47),
         12 => both(
-            both(voted(ends(ends(with(rec, 49, 2), 8, 23), 32, 39)), 0),
+            both(
+                voted(ends(ends(with(with(rec, 3, 1), 49, 2), 8, 23), 32, 39)),
+                0,
+            ),
             1,
         ),
         _ => rec,

@@ -11,7 +11,8 @@ use borrow.Author.Tests.{eq-eqb}
 use Rattle.record.specs.Form.{refusalOf}
 use Rattle.record.specs.Records.{decode}
 use Rattle.rules.specs.History.{History}
-use Rattle.judge.specs.Calls.{refusalAfter}
+use Rattle.rules.specs.Events.{stray}
+use Rattle.intake.specs.Refusals.{orNext, refusalAfter}
 use Rattle.judge.specs.Pieces.{piecesIn, pieces, soundIn, refusalIn, soundPieces, firstRefusal, recordsTaken, recordsIn}
 
 -- ---- the pieces of the first so many records are the first so many pieces
@@ -56,14 +57,16 @@ first-pieces (suc m) (suc j) (suc k) (x ∷ s) p q =
 
 -- ---- a full judge refuses
 
-full-by : (form : ℕ) (b : Bool) → eqb form 0 ≡ b → eqb (cond b 6 form) 0 ≡ false
-full-by form true e = refl
-full-by form false e = e
+full-by : (form : ℕ) (lost b : Bool) → eqb form 0 ≡ b → eqb (cond b (cond lost 11 6) form) 0 ≡ false
+full-by form true true e = refl
+full-by form false true e = refl
+full-by form lost false e = e
 
 full-refuses : (c : ℕ) (h : History) (p : List ℕ) → length h ≡ c → eqb (refusalAfter c h p) 0 ≡ false
 full-refuses c h p e =
-    ap (λ (b : Bool). eqb (cond (eqb (refusalOf p) 0) (cond b 6 0) (refusalOf p)) 0) (eq-eqb (length h) c e)
-    ∙ full-by (refusalOf p) (eqb (refusalOf p) 0) refl
+    let lost = stray (decode p) h in
+    ap (λ (full : Bool). eqb (orNext (refusalOf p) lost full) 0) (eq-eqb (length h) c e)
+    ∙ full-by (refusalOf p) lost (eqb (refusalOf p) 0) refl
 
 -- after the records of h k more can be taken, and one further piece tells the refusal
 sound-enough : (c : ℕ) (h : History) (k : ℕ) (ps : List (List ℕ)) → length h + k ≡ c → soundIn c h (take (suc k) ps) ≡ soundIn c h ps

@@ -2,13 +2,12 @@
 use mathlib.Core.Path.{_≡_}
 use mathlib.Core.List.{List, []}
 use mathlib.Core.Logic.{_⊎_}
-use Prim.Native.Nat.{ℕ, _+_, _*_, _≤_, _<_}
+use Prim.Native.Nat.{ℕ, _+_, _*_, _<_}
 use lib.ListN.{length, take}
 use Rattle.rules.specs.declared.Case.{Case}
-use Rattle.rules.specs.declared.Case.the-variants.{Fault}
 use Rattle.rules.specs.declared.Evidence.{Evidence}
 use Rattle.rules.specs.History.{History}
-use Rattle.rules.specs.Reports.{first, FirstFault}
+use Rattle.rules.specs.Reports.{FirstFault, Free}
 use Rattle.rules.specs.Checks.{checkCount, checkAt, HasBy, caseAt}
 use Rattle.judge.specs.Pieces.{soundPieces, firstRefusal, recordsTaken}
 use Rattle.sheet_text.specs.Sheets.{passLine, faultLine, nameAt, lastLine, lineAt}
@@ -29,21 +28,22 @@ count input = length (soundPieces 96 input)
 abbrev pub refusal : List ℕ → ℕ
 refusal input = firstRefusal 96 input
 
--- a fault line, with its kind, its record's number and its evidence
+-- a fault line, with its kind, its event's number and its evidence
 pub record FaultLine (name line : List ℕ) : Type 0 where
   pub kind : ℕ
   pub at : ℕ
   pub evidence : Evidence
   pub is : line ≡ faultLine name kind at evidence
 
--- what a check's line says of the records h. `has` is that a beginning of them has the check's fault, `says` the fault's kind
--- and evidence. A pass is printed exactly when no beginning has the fault; a fault at record n exactly when the first n records
--- have it and no fewer do, with that fault's kind and evidence; and nothing else is printed
+-- what a check's line says of the records h. `has` is that a beginning of them has the check's fault, `says` the kind and evidence of
+-- a fault at a beginning's last record. Beginnings are whole events, the last as far as it has been taken. A pass is printed exactly
+-- when no beginning has the fault; a fault at event n exactly when the first n events have it and no fewer do, with kind and evidence
+-- of the first record of them at which it is said; and nothing else is printed
 pub record LineSays (has : History → Type 0) (says : History → Case) (h : History) (name line : List ℕ) : Type 0 where
-  pub pass-only : line ≡ passLine name → (n : ℕ) → n ≤ length h → has (first n h) → ⊥
-  pub pass-if : ((n : ℕ) → n ≤ length h → has (first n h) → ⊥) → line ≡ passLine name
-  pub fault-only : (kind n : ℕ) (e : Evidence) → line ≡ faultLine name kind n e → FirstFault has says h n (Fault kind e)
-  pub fault-if : (kind n : ℕ) (e : Evidence) → FirstFault has says h n (Fault kind e) → line ≡ faultLine name kind n e
+  pub pass-only : line ≡ passLine name → Free has h
+  pub pass-if : Free has h → line ≡ passLine name
+  pub fault-only : (kind n : ℕ) (e : Evidence) → line ≡ faultLine name kind n e → FirstFault has says h n kind e
+  pub fault-if : (kind n : ℕ) (e : Evidence) → FirstFault has says h n kind e → line ≡ faultLine name kind n e
   pub one-of-them : (line ≡ passLine name) ⊎ FaultLine name line
 
 -- the line of the check at a place of the table, for the program's tenant: its name and what its rule says of the input's records

@@ -1,7 +1,7 @@
 -- Entries worked out by the checker: what a judge adds to a tally of zeros, and one case of each refusal with its neighbour.
 use mathlib.Core.Path.{_≡_, refl}
 use mathlib.Core.List.{List, [], _∷_}
-use Prim.Native.Nat.{ℕ, zero, suc, _+_, _*_, _-_}
+use Prim.Native.Nat.{ℕ, zero, suc, _+_, _*_}
 use lib.ListN.{set, replicate}
 use lib.Seq.{sets}
 use Rattle.record.specs.Numbers.{littleEndian, bytesOf}
@@ -19,6 +19,7 @@ abbrev judged : ℕ → ℕ → ℕ → Judge
 judged k kind count = record {
   capacity = 96;
   count = count;
+  events = count;
   opening = record { tenant = 0 };
   reports = set (replicate checkCount passed) k (faulted 2 kind (evidence []));
 }

@@ -3,13 +3,12 @@ use mathlib.Core.Path.{_≡_}
 use mathlib.Core.Bool.{cond}
 use mathlib.Core.List.{List, [], _∷_}
 use Prim.Native.Nat.{ℕ, zero, suc, _+_, _*_, _≤_, _<_}
-use lib.ListN.{length, replicate}
+use lib.ListN.{replicate}
 use lib.Dec.{eqb}
 use Rattle.rules.specs.declared.Case.{Case}
-use Rattle.rules.specs.declared.Case.the-variants.{Fault}
 use Rattle.rules.specs.declared.Evidence.{Evidence}
 use Rattle.rules.specs.History.{History}
-use Rattle.rules.specs.Reports.{first, FirstFault}
+use Rattle.rules.specs.Reports.{FirstFault, Free}
 use Rattle.rules.specs.Checks.{checkCount, checkAt}
 use Rattle.judge.specs.declared.state.Judge.{Judge}
 use Rattle.tally.specs.declared.Entered.{Entered}
@@ -57,10 +56,11 @@ pub record Tallied (js : List Judge) (bytes : List ℕ) : Type 0 where
   pub next : (j : Judge) (r : Entered) (bytes′ : List ℕ) → EntersBy bytes j r bytes′ → refusalNumber (r .refusal) ≡ nextRefusal js j
 
 -- what a judge that took the records of h counts as, for a history check at place k of the table: a pass exactly when no beginning
--- has the check's fault; a fault of a kind exactly when the first fault has that kind
+-- has the check's fault; a fault of a kind exactly when the first fault has that kind. Beginnings are whole events, the last as far as
+-- it has been taken
 pub record Means (has : History → Type 0) (caseAt : History → Case) (k : ℕ) (h : History) (j : Judge) : Type 0 where
-  pub pass-only : countAt (j ∷ []) (placeCount * k) ≡ 1 → (n : ℕ) → n ≤ length h → has (first n h) → ⊥
-  pub pass-if : ((n : ℕ) → n ≤ length h → has (first n h) → ⊥) → countAt (j ∷ []) (placeCount * k) ≡ 1
+  pub pass-only : countAt (j ∷ []) (placeCount * k) ≡ 1 → Free has h
+  pub pass-if : Free has h → countAt (j ∷ []) (placeCount * k) ≡ 1
   pub fault-only : (kind : ℕ) → 1 ≤ kind → kind < placeCount → countAt (j ∷ []) (placeCount * k + kind) ≡ 1
-      → (n : ℕ) × (e : Evidence) × FirstFault has caseAt h n (Fault kind e)
-  pub fault-if : (n kind : ℕ) (e : Evidence) → FirstFault has caseAt h n (Fault kind e) → countAt (j ∷ []) (placeCount * k + kind) ≡ 1
+      → (n : ℕ) × (e : Evidence) × FirstFault has caseAt h n kind e
+  pub fault-if : (n kind : ℕ) (e : Evidence) → FirstFault has caseAt h n kind e → countAt (j ∷ []) (placeCount * k + kind) ≡ 1

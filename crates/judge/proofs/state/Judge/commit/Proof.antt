@@ -1,4 +1,6 @@
 -- `commit`: 10 where the judge suits and the counts differ; else the push of the ticket's record.
+use mathlib.Core.Path.{_≡_, sym}
+use lib.ListN.{length}
 use borrow.Author.Needs.{needs}
 use Rattle.judge.proofs.Commits.{committed-stale, committed-pushed}
 use Rattle.judge.proofs.state.Judge.commit.Statement.{statement}
@@ -14,8 +16,12 @@ returns c =
     committed-stale (a .self) (u .suits .result .judge) (a .log .now) (a .work .now) (a .ticket) (u .suits .ensures .0) (u .suits .ensures .1)
     (c .if1 .taken)
 
+-- a ticket's record has its size, known from its type
+whole : (c : tie.After-struct-known) → length (c .before .before .before .before .before .args .ticket .rec) ≡ 368
+whole c = search needs
+
 slice-aggregate-push : tie.Need-slice-aggregate-push
-slice-aggregate-push c = search needs
+slice-aggregate-push c = sym (whole (c .before .before .before .before .before .before .before))
 
 push-requires : tie.Need-push-requires
 push-requires c κs = search needs

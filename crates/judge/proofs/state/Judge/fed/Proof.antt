@@ -1,13 +1,13 @@
 -- `fed`: from rows of zeros the trace comes to rows, which are the judge's reports then.
-use mathlib.Core.Path.{_≡_, sym, subst}
+use mathlib.Core.Path.{sym, subst}
 use mathlib.Core.List.{List}
 use Prim.Native.Nat.{ℕ}
 use native.Mathlib.Omega.{arith}
-use lib.ListN.{length, replicate}
+use lib.ListN.{replicate}
 use borrow.Author.Needs.{needs}
 use Rattle.rules.specs.declared.Report.{Report}
 use Rattle.judge.specs.declared.state.Judge.{Judge}
-use Rattle.judge.specs.States.{State, refusalNumber}
+use Rattle.judge.specs.States.{State}
 use Rattle.judge.specs.Runs.{stateOf}
 use Rattle.judge.specs.Traces.{Feeds, judgeBy}
 use Rattle.judge.proofs.Traces.{zeros-fit}
@@ -44,9 +44,9 @@ returns c =
     let a = c .before .before .before .before .before .before .before .before .before .before .before .before .before .before .before .before .args in
     let j = a .self in
     let trace = a .trace .now in
-    let start = stateOf (judgeBy (j .opening) (j .capacity) 0 (replicate 56 0)) (a .log .now) (a .work .now) in
+    let start = stateOf (judgeBy (j .opening) (j .capacity) 0 0 (replicate 56 0)) (a .log .now) (a .work .now) in
     let judge : List Report → Judge =
-    λ rs. record { capacity = j .capacity; count = f .result .count; opening = j .opening; reports = rs } in
+    λ rs. record { capacity = j .capacity; count = f .result .count; events = f .result .events; opening = j .opening; reports = rs } in
     let left : List Report → State = λ rs. stateOf (judge rs) (f .last .0) (f .last .1 .0) in
     let reports = c .before .read-rows in
     subst (λ (n : ℕ). Feeds start trace 0 n (f .result .at) (left (reports .result))) (sym (c .refusal-of .ensures))

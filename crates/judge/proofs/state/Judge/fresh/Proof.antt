@@ -1,5 +1,4 @@
 -- `fresh`: every report is a pass.
-use mathlib.Core.Path.{_≡_}
 use lib.ListN.{replicate}
 use borrow.Author.Needs.{needs}
 use Rattle.judge.proofs.state.Judge.fresh.Statement.{statement}
@@ -11,7 +10,7 @@ pass-requires c κs = search needs
 returns : tie.Need-returns
 returns c =
     let a = c .before .args in
-    λ i. record { capacity = a .capacity; count = 0; opening = a .opening; reports = replicate 8 (c .pass .ensures i) }
+    λ i. record { capacity = a .capacity; count = 0; events = 0; opening = a .opening; reports = replicate 8 (c .pass .ensures i) }
 
 pub fresh-spec : {M : Type 1} → statement M
 fresh-spec = tie.close (tie.spec pass-requires returns)

@@ -1,10 +1,11 @@
 -- `preview`: the reports go to rows, the record is judged or refused by the core, and the rows come back as the reports shown.
-use mathlib.Core.Path.{_≡_, refl, sym, _∙_}
+use mathlib.Core.Path.{_≡_, refl, sym, _∙_, subst}
 use mathlib.Core.List.{List}
-use Prim.Native.Nat.{ℕ, _≤_}
+use Prim.Native.Nat.{ℕ}
 use native.Mathlib.Omega.{arith}
 use lib.ListN.{length}
-use Rattle.intake.proofs.Decisions.{push-few, room-of}
+use Rattle.intake.specs.Refusals.{PushNumber}
+use Rattle.intake.proofs.Decisions.{push-number, room-of}
 use Rattle.judge.proofs.Pushes.{RowsOf, written-size, written-fit, written-are}
 use Rattle.judge.proofs.Previews.{ticket-would, ticket-refused, shown-would, shown-refused}
 use borrow.Author.Needs.{needs}
@@ -25,12 +26,11 @@ module _ (c : tie.After-preview) where
   are : RowsOf (s .args .self) rows
   are = written-are (s .args .self) (w .write-rows .ensures)
 
-  few : c .preview .result ≤ 6
+  few : PushNumber (c .preview .result)
   few =
       let a = s .args in
-      let e = c .preview .ensures .refusal in
-      let f = push-few (a .self .capacity) (a .self .count) (length (a .log .now)) (length (a .work .now)) (a .rec .now) in
-      omega arith
+      let f = push-number (a .self .capacity) (a .self .count) (a .log .now) (length (a .work .now)) (a .rec .now) in
+      subst PushNumber (sym (c .preview .ensures .refusal)) f
 
   size : length (c .preview .last .1 .1 .0) ≡ 56
   size = c .preview .ensures .size ∙ written-size (s .args .self) (w .write-rows .ensures)

@@ -6,10 +6,14 @@ use native.Mathlib.Omega.{arith}
 use lib.ListN.{length}
 use mir.Syntax.{w64}
 use mir.Val.{Fits}
+use Rattle.record.specs.Records.{decode}
 use Rattle.rules.specs.declared.Report.{Report}
-use Rattle.intake.proofs.Decisions.{push-few, room-of}
+use Rattle.events.specs.Numbers.{eventIn}
+use Rattle.intake.specs.Refusals.{PushNumber}
+use Rattle.intake.proofs.Decisions.{Room, push-number as number-drawn, room-of}
 use Rattle.judge.specs.declared.state.Judge.{Judge}
 use Rattle.intake.specs.Words.{Indexed}
+use Rattle.judge.specs.States.{State}
 use Rattle.judge.specs.Runs.{Pushed, stateOf}
 use Rattle.judge.proofs.Pushes.{RowsOf, written-size, written-fit, written-are, push-number, push-taken, push-refused}
 use borrow.Author.Needs.{needs}
@@ -31,15 +35,18 @@ module _ (c : tie.After-take) where
   abbrev s : tie.Start
   s = w .before .before .before .before .before .before .before
 
-  few : c .take .result ≤ 6
+  few : PushNumber (c .take .result)
   few =
       let a = s .args in
-      let e = c .take .ensures .refusal in
-      let f = push-few (a .self .capacity) (a .self .count) (length (a .log .now)) (length (a .work .now)) (a .rec .now) in
-      omega arith
+      let f = number-drawn (a .self .capacity) (a .self .count) (a .log .now) (length (a .work .now)) (a .rec .now) in
+      subst PushNumber (sym (c .take .ensures .refusal)) f
 
   are : RowsOf (s .args .self) rows
   are = written-are (s .args .self) (w .write-rows .ensures)
+
+  -- a record that is taken has room, and is whole
+  room : c .take .result ≡ 0 → Room (s .args .self .capacity) (s .args .self .count) (s .args .log .now) (s .args .work .now) (s .args .rec .now)
+  room z = room-of (sym (c .take .ensures .refusal) ∙ z)
 
   size : length (c .take .last .1 .1 .0) ≡ 56
   size = c .take .ensures .size ∙ written-size (s .args .self) (w .write-rows .ensures)
@@ -84,12 +91,17 @@ read-rows-requires c κs =
     let n = size t in
     (omega arith, t .take .ensures .fits (written-fit (s t .args .self) (w t .write-rows .ensures)))
 
-add-t26 : tie.Need-add-t26
-add-t26 c =
+add-t27 : tie.Need-add-t27
+add-t27 c =
     let t = c .before .before .before .before .before .before .before .before in
     let a = s t .args in
-    let r = room-of {log = a .log .now} {work = a .work .now} {bytes = a .rec .now} (sym (t .take .ensures .refusal) ∙ c .before .before .if1 .left) in
+    let r = room t (c .before .before .if1 .left) in
     next-fits (a .self .count) (a .self .capacity) (r .room) (r .suits .small)
+
+event-after-requires : tie.Need-event-after-requires
+event-after-requires c κs =
+    let t = c .before .before .before .before .before .before .before .before in
+    room t (c .before .before .if1 .left) .size
 
 same-length-3 : tie.Need-same-length-3
 same-length-3 c = search needs
@@ -99,18 +111,21 @@ same-length-4 c = search needs
 
 returns-2 : tie.Need-returns-2
 returns-2 c =
-    let t = c .before .before .before .before .before .before .before .before in
+    let t = c .before .before .before .before .before .before .before .before .before in
     let a = s t .args in
     let e = t .take .ensures in
-    let z = c .before .before .if1 .left in
+    let z = c .before .before .before .if1 .left in
     let given = stateOf (a .self) (a .log .now) (a .work .now) in
     let q = push-taken (a .self) (a .log .now) (a .work .now) (rows t) (a .rec .now) (are t) e z in
-    let judge : List Report → Judge =
-    λ rs. record { capacity = a .self .capacity; count = a .self .count + 1; opening = a .self .opening; reports = rs } in
+    let judge : ℕ → List Report → Judge =
+    λ n rs. record { capacity = a .self .capacity; count = a .self .count + 1; events = n; opening = a .self .opening; reports = rs } in
+    let left : ℕ → List Report → State = λ n rs. stateOf (judge n rs) (t .take .last .0) (t .take .last .1 .0) in
+    let read = c .before .read-rows in
     record {
       refusal = sym z ∙ push-number (a .self) (a .log .now) (a .work .now) (rows t) (a .rec .now) (are t) e;
-      leaves = subst (λ (rs : List Report). Pushed Indexed given (a .rec .now) (stateOf (judge rs) (t .take .last .0) (t .take .last .1 .0)))
-          (sym (c .read-rows .ensures)) q;
+      leaves = subst (λ (n : ℕ). Pushed Indexed given (a .rec .now) (left n (read .result))) (sym (c .event-after .ensures))
+          (subst (λ (rs : List Report). Pushed Indexed given (a .rec .now) (left (eventIn (a .self .events) (decode (a .rec .now))) rs))
+          (sym (read .ensures)) q);
     }
 
 pub push-spec : {M : Type 1} → statement M
@@ -127,7 +142,8 @@ push-spec =
     returns
     slice-aggregate-read-rows
     read-rows-requires
-    add-t26
+    add-t27
+    event-after-requires
     same-length-3
     same-length-4
     returns-2)
