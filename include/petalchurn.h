@@ -1,8 +1,8 @@
 /* Petalchurn, a judge of recorded traces: the interface for C, and for any language that can call C.
  *
- * A trace is a run of records of 368 bytes each. A judge takes them one at a time and reports, for eight checks, the first fault
- * or a pass. A record can be previewed before it is taken, and then committed by the ticket that the preview gave. The judges of
- * many traces are entered into a tally, which counts them. docs/MANUAL.md says what a record holds and
+ * A trace is a run of records of 368 bytes each; an event is one of them, or several. A judge takes them one at a time and reports,
+ * for eight checks, the first fault or a pass. A record can be previewed before it is taken, and then committed by the ticket that
+ * the preview gave. The judges of many traces are entered into a tally, which counts them. docs/MANUAL.md says what a record holds and
  * what each check means. Every function of the library is proved against its contract (crates/petalchurn/specs); none has a
  * condition on the values that it is given.
  *
@@ -29,9 +29,12 @@
  *   give the refusals of the table; a push or commit that takes its record still counts it, copies it to its place and changes no
  *   other byte of the log; a refused preview still shows what is said below, and any preview still gives the ticket that is; a
  *   report still is what stands in state, and so is what an entry counts; a look-up is still refused by 5 where the table says so
- *   and else by 8 alone, which only petalchurn_holders_of and petalchurn_blocks give. Nothing is promised of the reports and words
- *   that such a push or commit writes, nor of the reports that a preview shows of a record that would be taken, nor of what a look-up
- *   that is not refused answers. A refused push, commit, report, look-up or entry still leaves every buffer as it was.
+ *   and else by 8 alone, which only petalchurn_holders_of and petalchurn_blocks give. The last record taken is then what the log
+ *   holds there; a node mark that is not 1 counts as none. Whatever number the events were, a push or commit that takes its record
+ *   leaves them as they were where the record continues an event, and else one higher, but 18446744073709551615 as it was. Nothing is
+ *   promised of the reports and the words of work that such a push or commit writes, nor of the reports that a preview shows of a
+ *   record that would be taken, nor of what a look-up that is not refused answers. A refused push, commit, report, look-up or entry
+ *   still leaves every buffer as it was.
  *
  * At the same time
  *   A call touches no memory but the buffers that it is given and its stack, and takes no lock. Two calls may run at the same
@@ -50,27 +53,37 @@
  *     1  a record, or a trace's tail, is not 368 bytes
  *     2  kind not 1 to 12
  *     3  node mark not 0 or 1; sub-code, flag, voter count or span count not one of the kind's values (0 alone where it has
- *        none; voters are 0 to 5 in kinds 1, 2 and 12); a counted span's key length above 31
+ *        none; the flag is 0 or 1 in kinds 1 and 12, voters are 0 to 5 in kinds 1, 2 and 12); a counted span's key length above 31
  *     4  a place that the kind does not use is not zero: also the node without its mark, a parent without the flag, bytes 50 to
  *        55, voters and spans past their counts, so the last two voter places always, a key's padding, kind 3's end; or a place
  *        that a tally does not use is not zero
- *     5  state is no judge's: not 59 words, a report's kind above 255, a capacity above 4096, a count above the capacity; or log
+ *     5  state is no judge's: not 60 words, a report's kind above 255, a capacity above 4096, a count above the capacity; or log
  *        is not 368 * capacity bytes, or work not 32 * capacity words; or tally is not 360 bytes, or a report to be counted has a
  *        kind that its check lacks
  *     6  the judge has taken as many records as its capacity
  *     7  for no capacity from 1 to 4096 is log 368 * C bytes and work 32 * C words
- *     8  the list for the answer is too short (for petalchurn_open: state is not 59 words)
+ *     8  the list for the answer is too short (for petalchurn_open: state is not 60 words)
  *     9  a count of a tally that is to be raised would pass 4294967295
  *     10 a ticket's count is not the judge's, or the ticket has fewer than eight bytes and so no count
- *   A push tests 5, 1, 2, 3, 4, 6 in that order, a preview 8 and then the same, a commit 5, 10, 1, 2, 3, 4, 6. petalchurn_report and
- *   the look-ups test 5, then 8. petalchurn_open and petalchurn_trace test 8, then 7; petalchurn_trace then pushes.
+ *     11 a record of kind 12 with flag 1 where no record has been taken, or where the last record taken is not of kind 12 with the
+ *        same node mark, node and index
+ *   A push tests 5, 1, 2, 3, 4, 11, 6 in that order, a preview 8 and then the same, a commit 5, 10, 1, 2, 3, 4, 11, 6. petalchurn_report
+ *   and the look-ups test 5, then 8. petalchurn_open and petalchurn_trace test 8, then 7; petalchurn_trace then pushes.
  *   petalchurn_tally_enter tests 5, 4, 9.
  *
- * A report is seven words: its kind, the number of the record that it arose at (from 1), and five evidence numbers, missing ones
+ * A report is seven words: its kind, the number of the event that it arose at (from 1), and five evidence numbers, missing ones
  * 0. A pass is seven zeros. The eight reports, numbered in printing order:
  *     1 agreement  2 overlap  3 install  4 twice  5 half  6 generations  7 ids  8 meta
  *
- * The 59 words of state: capacity, count of the records taken, tenant, then the eight reports, seven words each.
+ * Events and records. A record of kind 12 with flag 1 continues the event of the record taken before it; every other record begins an
+ * event, one of kind 12 with flag 0 also where its numbers are those of the record before it. (Kind 1's flag is a parent, and
+ * continues nothing.) The number of an event is how many records up to it begin one. A fault that arises inside an event has that
+ * event's number, and the kind and evidence of its first faulty record; after each record the reports are those of the events so far,
+ * the last of them as far as it was taken. Refused pushes and previews between two records of an event do not part it. Numbers of
+ * events are the positions of all eight reports, and the events in state. Records are counted by the capacity, the count in state and
+ * in a ticket, both numbers of petalchurn_trace and a tally's totals, and a look-up that names a record gives the record's number.
+ *
+ * The 60 words of state: capacity, count of the records taken, count of their events, tenant, then the eight reports, seven words each.
  *
  * The 360 bytes of a tally: nine records of ten counts, each of 32 bits, little-endian. The count at place p of record r, both
  * from 0, is the four bytes from 40 * r + 4 * p on.
@@ -90,7 +103,7 @@
  *             return 1;
  *     petalchurn_report(state, PETALCHURN_STATE_WORDS, 7, report, PETALCHURN_REPORT_WORDS);
  *     if (report[0] != 0)
- *         printf("ids: fault %" PRIu64 " at record %" PRIu64 "\n", report[0], report[1]);
+ *         printf("ids: fault %" PRIu64 " at event %" PRIu64 "\n", report[0], report[1]);
  * or, to show an operator what a record would do before it is taken, with uint64_t reports[8 * PETALCHURN_REPORT_WORDS] and
  * uint8_t ticket[PETALCHURN_TICKET_SIZE],
  *     refusal = petalchurn_preview(state, PETALCHURN_STATE_WORDS, log_, sizeof log_, work, 32 * 96, rec, 368,
@@ -111,12 +124,12 @@
 extern "C" {
 #endif
 
-#define PETALCHURN_VERSION 4        /* rises with every change of this interface */
+#define PETALCHURN_VERSION 5        /* rises with every change of this interface */
 #define PETALCHURN_RECORD_SIZE 368  /* bytes of a record */
 #define PETALCHURN_VOTER_LIMIT 5    /* the most voters of a record, which has places for seven */
 #define PETALCHURN_WORK_WORDS 32    /* words of the work area for each record of the capacity */
 #define PETALCHURN_CAPACITY 4096    /* the largest capacity */
-#define PETALCHURN_STATE_WORDS 59   /* words of a judge */
+#define PETALCHURN_STATE_WORDS 60   /* words of a judge */
 #define PETALCHURN_REPORT_WORDS 7   /* words of a report */
 #define PETALCHURN_TRACE_WORDS 58   /* words of a whole trace's answer */
 #define PETALCHURN_TICKET_SIZE 376  /* bytes of a ticket */
@@ -133,19 +146,19 @@ uint64_t petalchurn_version(void);
 
 /* Opens a judge over a log and a work area, whose lengths say its capacity; tenant is the number that names a group's keys.
  * Refusals: 8 (nothing is written), 7.
- * Writes all of state: the opened judge, of count 0 and eight passes; at refusal 7 the same with capacity 0.
+ * Writes all of state: the opened judge, of count 0, no events and eight passes; at refusal 7 the same with capacity 0.
  * Zeroes all of work; at refusal 7 work is as it was. Of the log only the length is looked at. */
 uint64_t petalchurn_open(uint64_t tenant, const uint8_t *log, size_t log_len, uint64_t *work, size_t work_len,
                          uint64_t *state, size_t state_len);
 
 /* Takes one record: judges it, notes it in work, copies it to the log after those taken before, and writes the judge to state.
  * After a fault records are still taken; a check's first fault stays. A refused push leaves all three as they were.
- * Refusals: 5, 1, 2, 3, 4, 6. */
+ * Refusals: 5, 1, 2, 3, 4, 11, 6. */
 uint64_t petalchurn_push(uint64_t *state, size_t state_len, uint8_t *log, size_t log_len, uint64_t *work, size_t work_len,
                          const uint8_t *rec, size_t rec_len);
 
 /* Shows what a push of a record would do, and alters nothing of state, log and work. It returns what that push would return.
- * Refusals: 8 where reports has fewer than 56 words or ticket fewer than 376 bytes (nothing is written), then 5, 1, 2, 3, 4, 6.
+ * Refusals: 8 where reports has fewer than 56 words or ticket fewer than 376 bytes (nothing is written), then 5, 1, 2, 3, 4, 11, 6.
  * Writes the first 56 words of reports and the first 376 bytes of ticket, at every refusal but 8 too, and leaves the rest:
  *     not refused   the eight reports that the judge would have, seven words each; the ticket of the record
  *     refused       the present eight reports, under 5 eight passes; a ticket of zeros
@@ -158,7 +171,7 @@ uint64_t petalchurn_preview(const uint64_t *state, size_t state_len, const uint8
  * what follows the ticket's eight bytes of count is pushed, so that a ticket of another length than 376 bytes draws 1. A second
  * commit of one ticket draws 10, and so does a ticket of zeros, which in a judge that has taken no record draws 2. A refused
  * commit leaves all three as they were.
- * Refusals: 5, 10, 1, 2, 3, 4, 6. */
+ * Refusals: 5, 10, 1, 2, 3, 4, 11, 6. */
 uint64_t petalchurn_commit(uint64_t *state, size_t state_len, uint8_t *log, size_t log_len, uint64_t *work, size_t work_len,
                            const uint8_t *ticket, size_t ticket_len);
 
@@ -170,7 +183,7 @@ uint64_t petalchurn_report(const uint64_t *state, size_t state_len, uint64_t k, 
 /* Judges a whole trace: opens a judge, and pushes the trace's records, of 368 bytes each, up to the first refusal, which it
  * returns; a tail that is shorter is refused with 1. The records before it remain taken: log and work are as those pushes left
  * them, and the log's bytes past them as they were.
- * Refusals: 8 (nothing is written), 7 (log and work are as they were), 1, 2, 3, 4, 6.
+ * Refusals: 8 (nothing is written), 7 (log and work are as they were), 1, 2, 3, 4, 11, 6.
  * Writes the first 58 words of out, at every refusal but 8 too, and leaves the rest:
  *     0        how many records were taken
  *     1        the number of the refused record, from 1; 0 where none was refused or the opening was

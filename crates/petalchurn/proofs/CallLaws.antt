@@ -8,6 +8,7 @@ use native.Mathlib.Omega.{arith}
 use lib.ListN.{length, getD, drop, set}
 use lib.Seq.{sets}
 use lib.Dec.{eqb}
+use Rattle.record.specs.Records.{decode}
 use Rattle.record.proofs.Keys.{never}
 use Rattle.rules.specs.declared.Opening.{Opening}
 use Rattle.rules.specs.declared.Report.{Report}
@@ -15,6 +16,7 @@ use Rattle.rules.specs.Reports.{passed}
 use Rattle.rules.specs.Checks.{checkCount}
 use Rattle.rows.specs.Rows.{rowsSize, reportWords, rowsOf}
 use Rattle.rows.proofs.Rows.{sets-front, length-rows}
+use Rattle.events.specs.Numbers.{eventIn}
 use Rattle.intake.specs.Refusals.{fitsBy}
 use Rattle.intake.specs.Words.{Indexed}
 use Rattle.intake.specs.Takes.{TakesIn}
@@ -29,7 +31,7 @@ use Rattle.judge.specs.Runs.{Pushed, stateOf}
 use Rattle.judge.specs.Traces.{judgeBy, TracedBy}
 use Rattle.judge.proofs.Pushes.{RowsOf, push-number, push-taken, push-refused, rows-own}
 use Rattle.state_words.specs.StateWords.{stateSize, stateWords, judgeIn, isState, stateIn}
-use Rattle.state_words.proofs.Headers.{openingIn, rowsPart, withRows, part-size, judge-part, with-same, with-count}
+use Rattle.state_words.proofs.Headers.{openingIn, rowsPart, withRows, part-size, judge-part, with-same, with-counts}
 use Rattle.state_words.proofs.States.{state-facts, fit-of, some-state, none-state, state-words}
 use Rattle.petalchurn.specs.Calls.{reportSize, traceSize, OpensWords, PushesWords, ReportsWords, traceWords, TracesWords}
 
@@ -64,16 +66,16 @@ module _ (state log work bytes : List ℕ) where
 
   -- the core's answer on the state's own words
   module _ (t : isState state ≡ true) {r : ℕ} {log′ work′ rows′ : List ℕ}
-      (p : TakesIn (openingIn state) (getD state 0 0) (getD state 1 0) log work (rowsPart state) bytes r log′ work′ rows′) where
+      (p : TakesIn (openingIn state) (getD state 0 0) (getD state 1 0) (getD state 2 0) log work (rowsPart state) bytes r log′ work′ rows′) where
     size : length state ≡ stateSize
     size = state-facts state t .size
 
     -- the judge of the state's numbers and rows
     abbrev own : Judge
-    own = judgeBy (openingIn state) (getD state 0 0) (getD state 1 0) (rowsPart state)
+    own = judgeBy (openingIn state) (getD state 0 0) (getD state 1 0) (getD state 2 0) (rowsPart state)
 
     are : RowsOf own (rowsPart state)
-    are = rows-own (openingIn state) (getD state 0 0) (getD state 1 0) (rowsPart state) (part-size state size)
+    are = rows-own (openingIn state) (getD state 0 0) (getD state 1 0) (getD state 2 0) (rowsPart state) (part-size state size)
 
     own-is : {j : Judge} → stateIn state ≡ some j → own ≡ j
     own-is e = judge-part state size ∙ fit-of state t e
@@ -101,20 +103,23 @@ module _ (state log work bytes : List ℕ) where
           untouched = λ n. (same, l .0, l .1);
         }
 
-    -- taken: the words are those of the judge with the rows that the core left, and one more in the count
-    pub push-done : r ≡ 0 → PushesWords state log work bytes r (set (withRows state rows′) 1 (getD state 1 0 + 1)) log′ work′
-    push-done z =
-        let next : Judge = judgeBy (openingIn state) (getD state 0 0) (getD state 1 0 + 1) rows′ in
+    -- taken: the words are those of the judge with the rows that the core left, one more in the count, and the events with this record
+    pub push-done : {e : ℕ} → r ≡ 0 → e ≡ eventIn (getD state 2 0) (decode bytes)
+        → PushesWords state log work bytes r (set (set (withRows state rows′) 1 (getD state 1 0 + 1)) 2 e) log′ work′
+    push-done {e} z q =
+        let n = getD state 1 0 + 1 in
+        let m = eventIn (getD state 2 0) (decode bytes) in
+        let next : Judge = judgeBy (openingIn state) (getD state 0 0) n m rows′ in
         record {
-          unfit = λ n. never t (none-state state n);
-          fit = λ j e. record {
-            refusal = number e;
+          unfit = λ x. never t (none-state state x);
+          fit = λ j x. record {
+            refusal = number x;
             judge = next;
-            leaves = subst (λ (i : Judge). Pushed Indexed (stateOf i log work) bytes (stateOf next log′ work′)) (own-is e)
+            leaves = subst (λ (i : Judge). Pushed Indexed (stateOf i log work) bytes (stateOf next log′ work′)) (own-is x)
                 (push-taken own log work (rowsPart state) bytes are p z);
-            words = with-count state size rows′ (getD state 1 0 + 1) rows-left;
+            words = ap (λ (k : ℕ). set (set (withRows state rows′) 1 n) 2 k) q ∙ with-counts state size rows′ n m rows-left;
           };
-          untouched = λ n. absurd (n z);
+          untouched = λ x. absurd (x z);
         }
 
 -- ---- a report

@@ -66,20 +66,21 @@ reports-eight rows = refl
 
 -- ---- what is shown
 
-module _ (state log work rec reports : List ℕ) (size : length state ≡ stateSize) {copied : List ℕ} (c : copied ≡ drop headerSize state ++ drop rowsSize reports)
-    {r : ℕ} {rows′ : List ℕ} (p : PreviewsIn (openingIn state) (getD state 0 0) (getD state 1 0) log work (take rowsSize (drop 0 copied)) rec r rows′) where
+module _ (state log work rec reports : List ℕ) (size : length state ≡ stateSize)
+    {copied : List ℕ} (c : copied ≡ drop headerSize state ++ drop rowsSize reports) {r : ℕ} {rows′ : List ℕ}
+    (p : PreviewsIn (openingIn state) (getD state 0 0) (getD state 1 0) (getD state 2 0) log work (take rowsSize (drop 0 copied)) rec r rows′) where
   -- the judge of the state's numbers and rows
   abbrev own : Judge
-  own = judgeBy (openingIn state) (getD state 0 0) (getD state 1 0) (drop headerSize state)
+  own = judgeBy (openingIn state) (getD state 0 0) (getD state 1 0) (getD state 2 0) (drop headerSize state)
 
   lent : take rowsSize (drop 0 copied) ≡ drop headerSize state
   lent = ap (take rowsSize) c ∙ take-at (drop headerSize state) (drop rowsSize reports) rowsSize (rows-size state size)
 
-  of-own : PreviewsIn (openingIn state) (getD state 0 0) (getD state 1 0) log work (drop headerSize state) rec r rows′
-  of-own = subst (λ (l : List ℕ). PreviewsIn (openingIn state) (getD state 0 0) (getD state 1 0) log work l rec r rows′) lent p
+  of-own : PreviewsIn (openingIn state) (getD state 0 0) (getD state 1 0) (getD state 2 0) log work (drop headerSize state) rec r rows′
+  of-own = subst (λ (l : List ℕ). PreviewsIn (openingIn state) (getD state 0 0) (getD state 1 0) (getD state 2 0) log work l rec r rows′) lent p
 
   are : RowsOf own (drop headerSize state)
-  are = rows-own (openingIn state) (getD state 0 0) (getD state 1 0) (drop headerSize state) (rows-size state size)
+  are = rows-own (openingIn state) (getD state 0 0) (getD state 1 0) (getD state 2 0) (drop headerSize state) (rows-size state size)
 
   rows-left : length rows′ ≡ rowsSize
   rows-left = of-own .size ∙ rows-size state size

@@ -15,7 +15,7 @@ use Rattle.rules.specs.Reports.{passed}
 use Rattle.rules.specs.Checks.{checkCount, reportsOf}
 use Rattle.rows.specs.Rows.{rowsSize, reportWords, rowsOf}
 use Rattle.history.specs.Logs.{hist}
-use Rattle.intake.specs.Refusals.{fitsBy}
+use Rattle.intake.specs.Refusals.{fitsBy, refusalAfter}
 use Rattle.intake.specs.Words.{Indexed}
 use Rattle.intake.proofs.Suiting.{fits-by}
 use Rattle.judge.specs.declared.answer.Reported.{Reported}
@@ -27,7 +27,7 @@ use Rattle.judge.specs.Tickets.{ticketOf}
 use Rattle.judge.specs.States.{State, suits, refusalNumber}
 use Rattle.judge.specs.Openings.{Fits, freshOf}
 use Rattle.judge.specs.Calls as Judge-calls
-use Rattle.judge.specs.Calls.{Call, refusalAfter, callRefusal, takenOf, erased}
+use Rattle.judge.specs.Calls.{Call, callRefusal, takenOf, erased}
 use Rattle.judge.specs.Lookups.{lends}
 use Rattle.judge.specs.Answers.{reportNo, ReportedBy}
 use Rattle.judge.specs.Runs as Judge-runs

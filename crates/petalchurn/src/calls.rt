@@ -1,4 +1,5 @@
 // Opening a judge, pushing a record, and one of the reports.
+use events::event_after;
 use intake::take::take;
 use judge::state::Judge;
 use judge::state::number_of;
@@ -7,12 +8,16 @@ use rows::write_report;
 use rules::Opening;
 use state_words::CAPACITY_WORD;
 use state_words::COUNT_WORD;
+use state_words::EVENTS_WORD;
 use state_words::HEADER;
 use state_words::STATE_WORDS;
 use state_words::TENANT_WORD;
 use state_words::is_state;
 use state_words::read_state;
 use state_words::write_state;
+ghost use mathlib.Core.Path.{_≡_};
+ghost use mathlib.Core.Bool.{true};
+ghost use Rattle.state_words.specs.StateWords.{isState};
 ghost use Rattle.petalchurn.specs.Calls.{OpensWords, PushesWords, ReportsWords};
 
 // Opens a judge over a log and a work area, and writes its words.
@@ -36,8 +41,35 @@ pub extern "C" fn petalchurn_open(
     number_of(refusal)
 }
 
-// Takes a record, or says why not: then everything is as it stood. The record is taken on the state's own words: a check's row, where
-// it has a new fault, and the count are written, and no other word of the state.
+// Takes a record on the words of a judge, or says why not: then everything is as it stood. A check's row, where it has a new fault, the
+// count and the events are written, and no other word of the state. It is small enough to become a part of the two calls that take.
+pub(crate) fn take_into(state: &mut [u64], log: &mut [u8], work: &mut [u64], rec: &[u8]) -> u64
+    requires { ⌜ isState (now state) ≡ true ⌝ }
+    ensures { λ r. ⌜ PushesWords (now (state .entry)) (now (log .entry)) (now (work .entry)) (now (rec .entry)) r (now (state .exit)) (now (log .exit)) (now (work .exit)) ⌝ }
+{
+    let cap = state[CAPACITY_WORD] as usize;
+    let n = state[COUNT_WORD] as usize;
+    let events = state[EVENTS_WORD];
+    let tenant = state[TENANT_WORD];
+    let refusal = take(
+        log,
+        work,
+        &mut state[HEADER..STATE_WORDS],
+        n,
+        events,
+        cap,
+        tenant,
+        rec,
+    );
+    if refusal != 0 {
+        return refusal;
+    }
+    state[COUNT_WORD] = (n + 1) as u64;
+    state[EVENTS_WORD] = event_after(events, rec);
+    refusal
+}
+
+// Takes a record, or says why not: then everything is as it stood.
 #[no_mangle]
 pub extern "C" fn petalchurn_push(
     state: &mut [u64],
@@ -50,23 +82,7 @@ pub extern "C" fn petalchurn_push(
     if !is_state(state) {
         return 5;
     }
-    let cap = state[CAPACITY_WORD] as usize;
-    let n = state[COUNT_WORD] as usize;
-    let tenant = state[TENANT_WORD];
-    let refusal = take(
-        log,
-        work,
-        &mut state[HEADER..STATE_WORDS],
-        n,
-        cap,
-        tenant,
-        rec,
-    );
-    if refusal != 0 {
-        return refusal;
-    }
-    state[COUNT_WORD] = (n + 1) as u64;
-    refusal
+    take_into(state, log, work, rec)
 }
 
 // One of the reports, by its number in printing order.

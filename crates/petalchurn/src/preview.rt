@@ -1,11 +1,12 @@
 // Previewing a record, and committing it by its ticket.
-use crate::calls::petalchurn_push;
+use crate::calls::take_into;
 use history::chain::clear;
 use intake::decide::suits;
 use intake::preview::preview;
 use rows::ROWS;
 use state_words::CAPACITY_WORD;
 use state_words::COUNT_WORD;
+use state_words::EVENTS_WORD;
 use state_words::TENANT_WORD;
 use state_words::copy_rows;
 use state_words::is_state;
@@ -28,8 +29,18 @@ fn show<'a>(state: &[u64], log: &'a [u8], work: &[u64], rec: &'a [u8], reports: 
     copy_rows(state, reports);
     let cap = state[CAPACITY_WORD] as usize;
     let n = state[COUNT_WORD] as usize;
+    let events = state[EVENTS_WORD];
     let tenant = state[TENANT_WORD];
-    let refusal = preview(log, work, &mut reports[0..ROWS], n, cap, tenant, rec);
+    let refusal = preview(
+        log,
+        work,
+        &mut reports[0..ROWS],
+        n,
+        events,
+        cap,
+        tenant,
+        rec,
+    );
     if refusal == 5 {
         clear(&mut reports[0..ROWS]);
         return 5;
@@ -88,5 +99,5 @@ pub extern "C" fn petalchurn_commit(
     if !is_current(ticket, n) {
         return 10;
     }
-    petalchurn_push(state, log, work, &ticket[COUNT_SIZE..])
+    take_into(state, log, work, &ticket[COUNT_SIZE..])
 }

@@ -10,6 +10,7 @@ use Rattle.rules.specs.declared.Report.{Report}
 use Rattle.rows.specs.Rows.{rowsSize, verdictIn, reportIn, reportsFrom, reportsIn, KindsFit}
 use Rattle.rows.proofs.Rows.{sets-front}
 use Rattle.rows.proofs.ReadBack.{rows-read}
+use Rattle.judge.specs.declared.state.Judge.{Judge}
 use Rattle.judge.specs.Traces.{judgeBy}
 use Rattle.rules.specs.Checks.{checkCount}
 use Rattle.state_words.specs.StateWords.{headerSize, stateSize, stateWords, judgeIn}
@@ -52,28 +53,32 @@ rows-kinds words f = record { kind = λ k l. subst (λ (w : ℕ). w ≤ 255) (ki
 -- ---- the judge of a header and rows
 
 abbrev pub openingIn : List ℕ → Opening
-openingIn words = record { tenant = getD words 2 0 }
+openingIn words = record { tenant = getD words 3 0 }
 
 -- the judge read from words is that of the header's numbers and the rows
-pub judge-by : (words : List ℕ) → judgeBy (openingIn words) (getD words 0 0) (getD words 1 0) (drop headerSize words) ≡ judgeIn words
+pub judge-by : (words : List ℕ)
+    → judgeBy (openingIn words) (getD words 0 0) (getD words 1 0) (getD words 2 0) (drop headerSize words) ≡ judgeIn words
 unfolding judgeIn
 judge-by words =
-    ap (λ (rs : List Report). record { capacity = getD words 0 0; count = getD words 1 0; opening = openingIn words; reports = rs })
-    (reports-rows words)
+    let read : List Report → Judge =
+    λ rs. record { capacity = getD words 0 0; count = getD words 1 0; events = getD words 2 0; opening = openingIn words; reports = rs } in
+    ap read (reports-rows words)
 
 -- the words of such a judge are the header's numbers and the rows
-pub words-by : (cap n tenant : ℕ) (rows : List ℕ) → length rows ≡ rowsSize
-    → cap ∷ n ∷ tenant ∷ rows ≡ stateWords (judgeBy (record { tenant = tenant }) cap n rows)
+pub words-by : (cap n e tenant : ℕ) (rows : List ℕ) → length rows ≡ rowsSize
+    → cap ∷ n ∷ e ∷ tenant ∷ rows ≡ stateWords (judgeBy (record { tenant = tenant }) cap n e rows)
 unfolding stateWords
-words-by cap n tenant rows s = ap (λ (t : List ℕ). cap ∷ n ∷ tenant ∷ t) (rows-read rows s)
+words-by cap n e tenant rows s = ap (λ (t : List ℕ). cap ∷ n ∷ e ∷ tenant ∷ t) (rows-read rows s)
 
 -- words are their header's numbers and what is after them
-pub header-read : (words : List ℕ) → headerSize ≤ length words → words ≡ getD words 0 0 ∷ getD words 1 0 ∷ getD words 2 0 ∷ drop headerSize words
+pub header-read : (words : List ℕ) → headerSize ≤ length words
+    → words ≡ getD words 0 0 ∷ getD words 1 0 ∷ getD words 2 0 ∷ getD words 3 0 ∷ drop headerSize words
 header-read words h =
     let s : (i : ℕ) → i < headerSize → drop i words ≡ getD words i 0 ∷ drop (suc i) words = λ i l. drop-cons words i 0 (omega arith) in
     s 0 (omega arith)
     ∙ ap (λ (t : List ℕ). getD words 0 0 ∷ t) (s 1 (omega arith))
     ∙ ap (λ (t : List ℕ). getD words 0 0 ∷ getD words 1 0 ∷ t) (s 2 (omega arith))
+    ∙ ap (λ (t : List ℕ). getD words 0 0 ∷ getD words 1 0 ∷ getD words 2 0 ∷ t) (s 3 (omega arith))
 
 pub rows-size : (words : List ℕ) → length words ≡ stateSize → length (drop headerSize words) ≡ rowsSize
 rows-size words h = let d = length-drop headerSize words in omega arith
@@ -95,8 +100,8 @@ module _ (words : List ℕ) (size : length words ≡ stateSize) where
   part-size = ap length part-rows ∙ rows-size words size
 
   -- the judge of the header's numbers and the part is the one that the words stand for
-  pub judge-part : judgeBy (openingIn words) (getD words 0 0) (getD words 1 0) (rowsPart words) ≡ judgeIn words
-  judge-part = ap (judgeBy (openingIn words) (getD words 0 0) (getD words 1 0)) part-rows ∙ judge-by words
+  pub judge-part : judgeBy (openingIn words) (getD words 0 0) (getD words 1 0) (getD words 2 0) (rowsPart words) ≡ judgeIn words
+  judge-part = ap (judgeBy (openingIn words) (getD words 0 0) (getD words 1 0) (getD words 2 0)) part-rows ∙ judge-by words
 
   -- with the part as it was, the words are as they were
   pub with-same : {rows : List ℕ} → rows ≡ rowsPart words → withRows words rows ≡ words
@@ -105,11 +110,12 @@ module _ (words : List ℕ) (size : length words ≡ stateSize) where
       ∙ ap (λ (t : List ℕ). take headerSize words ++ t) (take-append-drop rowsSize (drop headerSize words))
       ∙ take-append-drop headerSize words
 
-  with-read : (rows : List ℕ) → withRows words rows ≡ getD words 0 0 ∷ getD words 1 0 ∷ getD words 2 0 ∷ rows
+  with-read : (rows : List ℕ) → withRows words rows ≡ getD words 0 0 ∷ getD words 1 0 ∷ getD words 2 0 ∷ getD words 3 0 ∷ rows
   with-read rows =
       let n = rows-size words size in
       let none : drop rowsSize (drop headerSize words) ≡ [] = drop-of-length-le (drop headerSize words) {i = rowsSize} (omega arith) in
-      let header : take headerSize words ≡ getD words 0 0 ∷ getD words 1 0 ∷ getD words 2 0 ∷ [] = ap (take headerSize) (header-read words (omega arith)) in
+      let header : take headerSize words ≡ getD words 0 0 ∷ getD words 1 0 ∷ getD words 2 0 ∷ getD words 3 0 ∷ [] =
+      ap (take headerSize) (header-read words (omega arith)) in
       ap (λ (t : List ℕ). take headerSize words ++ (rows ++ t)) none
       ∙ ap (λ (t : List ℕ). take headerSize words ++ t) (append-nil rows)
       ∙ ap (λ (t : List ℕ). t ++ rows) header
@@ -117,10 +123,11 @@ module _ (words : List ℕ) (size : length words ≡ stateSize) where
   pub with-size : (rows : List ℕ) → length rows ≡ rowsSize → length (withRows words rows) ≡ stateSize
   with-size rows e = let l = ap length (with-read rows) in omega arith
 
-  -- with other rows and another count they are those of the judge of these
-  pub with-count : (rows : List ℕ) (n : ℕ) → length rows ≡ rowsSize
-      → set (withRows words rows) 1 n ≡ stateWords (judgeBy (openingIn words) (getD words 0 0) n rows)
-  with-count rows n e = ap (λ (l : List ℕ). set l 1 n) (with-read rows) ∙ words-by (getD words 0 0) n (getD words 2 0) rows e
+  -- with other rows, another count and other events they are those of the judge of these
+  pub with-counts : (rows : List ℕ) (n e : ℕ) → length rows ≡ rowsSize
+      → set (set (withRows words rows) 1 n) 2 e ≡ stateWords (judgeBy (openingIn words) (getD words 0 0) n e rows)
+  with-counts rows n e s =
+      ap (λ (l : List ℕ). set (set l 1 n) 2 e) (with-read rows) ∙ words-by (getD words 0 0) n e (getD words 3 0) rows s
 
 -- ---- the rows, copied word by word
 

@@ -48,8 +48,9 @@ module _ (j : Judge) (r : Readable j) where
   judge-back : judgeIn (stateWords j) ≡ j
   unfolding judgeIn stateWords
   judge-back =
-      ap (λ (rs : List Report). record { capacity = j .capacity; count = j .count; opening = j .opening; reports = rs })
-      (sym (reports-rows (stateWords j)) ∙ r .back)
+      let read : List Report → Judge =
+      λ rs. record { capacity = j .capacity; count = j .count; events = j .events; opening = j .opening; reports = rs } in
+      ap read (sym (reports-rows (stateWords j)) ∙ r .back)
 
   words-state : isState (stateWords j) ≡ true
   unfolding isState

@@ -25,7 +25,7 @@ use Rattle.state_words.proofs.Headers.{judge-by, words-by, header-read,
 pub words-read : (words : List ℕ) → length words ≡ stateSize → words ≡ stateWords (judgeIn words)
 words-read words h =
     header-read words (omega arith)
-    ∙ words-by (getD words 0 0) (getD words 1 0) (getD words 2 0) (drop headerSize words) (rows-size words h)
+    ∙ words-by (getD words 0 0) (getD words 1 0) (getD words 2 0) (getD words 3 0) (drop headerSize words) (rows-size words h)
     ∙ ap stateWords (judge-by words)
 
 -- a judge is read: the header's numbers, and the reports past it
@@ -33,24 +33,27 @@ pub judge-read : (words : List ℕ) {rs : List Report} → rs ≡ reportsIn word
     → _≡_ {A = Judge} (record {
       capacity = getD words 0 0;
       count = getD words 1 0;
-      opening = record { tenant = getD words 2 0 };
+      events = getD words 2 0;
+      opening = record { tenant = getD words 3 0 };
       reports = rs;
     }) (judgeIn words)
 unfolding judgeIn
 judge-read words e = λ i. record {
   capacity = getD words 0 0;
   count = getD words 1 0;
-  opening = record { tenant = getD words 2 0 };
+  events = getD words 2 0;
+  opening = record { tenant = getD words 3 0 };
   reports = e i;
 }
 
--- three stores and the rows after them write a judge's words
+-- four stores and the rows after them write a judge's words
 pub state-written : (words : List ℕ) (j : Judge) → length words ≡ stateSize → length (j .reports) ≡ checkCount
-    → sets (set (set (set words 0 (j .capacity)) 1 (j .count)) 2 (j .opening .tenant)) headerSize (rowsOf (j .reports)) ≡ stateWords j
+    → sets (set (set (set (set words 0 (j .capacity)) 1 (j .count)) 2 (j .events)) 3 (j .opening .tenant)) headerSize (rowsOf (j .reports))
+    ≡ stateWords j
 unfolding stateWords
 state-written words j h e =
     let n : length (rowsOf (j .reports)) ≡ rowsSize = length-rows (j .reports) ∙ ap (λ (k : ℕ). 7 * k) e in
-    sets-all words (j .capacity ∷ j .count ∷ j .opening .tenant ∷ rowsOf (j .reports)) (omega arith)
+    sets-all words (j .capacity ∷ j .count ∷ j .events ∷ j .opening .tenant ∷ rowsOf (j .reports)) (omega arith)
 
 -- ---- the test, as facts
 

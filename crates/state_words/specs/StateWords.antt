@@ -11,22 +11,23 @@ use Rattle.judge.specs.declared.state.Judge.{Judge}
 
 -- the words before the rows
 abbrev pub headerSize : ℕ
-headerSize = 3
+headerSize = 4
 
 -- the words of a judge
 abbrev pub stateSize : ℕ
 stateSize = headerSize + rowsSize
 
--- capacity, count, tenant, then the reports in printing order
+-- capacity, count, events, tenant, then the reports in printing order
 unfoldable pub stateWords : Judge → List ℕ
-stateWords j = j .capacity ∷ j .count ∷ j .opening .tenant ∷ rowsOf (j .reports)
+stateWords j = j .capacity ∷ j .count ∷ j .events ∷ j .opening .tenant ∷ rowsOf (j .reports)
 
 -- the judge that words stand for
 unfoldable pub judgeIn : List ℕ → Judge
 judgeIn words = record {
   capacity = getD words 0 0;
   count = getD words 1 0;
-  opening = record { tenant = getD words 2 0 };
+  events = getD words 2 0;
+  opening = record { tenant = getD words 3 0 };
   reports = reportsIn words headerSize;
 }
 

@@ -12,14 +12,16 @@ ghost use lib.ListN.{length, drop};
 ghost use Rattle.rows.specs.Rows.{rowsSize};
 ghost use Rattle.state_words.specs.StateWords.{headerSize, stateSize, stateWords, judgeIn, isState, IsState};
 
-// The words before the reports: capacity, count, tenant.
-pub const HEADER: usize = 3;
+// The words before the reports: capacity, count, events, tenant.
+pub const HEADER: usize = 4;
 
 pub const CAPACITY_WORD: usize = 0;
 
 pub const COUNT_WORD: usize = 1;
 
-pub const TENANT_WORD: usize = 2;
+pub const EVENTS_WORD: usize = 2;
+
+pub const TENANT_WORD: usize = 3;
 
 // The words of a judge.
 pub const STATE_WORDS: usize = HEADER + ROWS;
@@ -43,6 +45,7 @@ pub fn read_state(state: &[u64]) -> Judge
     Judge {
         capacity: state[CAPACITY_WORD] as usize,
         count: state[COUNT_WORD] as usize,
+        events: state[EVENTS_WORD],
         opening: Opening {
             tenant: state[TENANT_WORD],
         },
@@ -59,6 +62,7 @@ pub fn write_state(state: &mut [u64], judge: Judge)
     let opening = judge.opening;
     state[CAPACITY_WORD] = judge.capacity as u64;
     state[COUNT_WORD] = judge.count as u64;
+    state[EVENTS_WORD] = judge.events;
     state[TENANT_WORD] = opening.tenant;
     write_rows(state, HEADER, reports);
 }

@@ -1,4 +1,4 @@
--- `read_state`: the reports from their rows, and the three words before them.
+-- `read_state`: the reports from their rows, and the four words before them.
 use Rattle.state_words.proofs.States.{judge-read}
 use borrow.Author.Needs.{needs}
 use Rattle.state_words.proofs.read_state.Statement.{statement}
@@ -16,8 +16,13 @@ shared-slice-read-t7 c = search needs
 shared-slice-read-t10 : tie.Need-shared-slice-read-t10
 shared-slice-read-t10 c = search needs
 
+shared-slice-read-t12 : tie.Need-shared-slice-read-t12
+shared-slice-read-t12 c = search needs
+
 returns : tie.Need-returns
-returns c = judge-read (c .before .before .before .before .before .args .state .now) (c .before .before .before .read-rows .ensures)
+returns c =
+    let read = c .before .before .before .before in
+    judge-read (read .before .before .args .state .now) (read .read-rows .ensures)
 
 pub read-state-spec : {M : Type 1} → statement M
 read-state-spec =
@@ -27,4 +32,5 @@ read-state-spec =
     shared-slice-read-t4
     shared-slice-read-t7
     shared-slice-read-t10
+    shared-slice-read-t12
     returns)

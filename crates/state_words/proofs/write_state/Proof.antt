@@ -1,4 +1,4 @@
--- `write_state`: three stores, and the rows after them.
+-- `write_state`: four stores, and the rows after them.
 use mathlib.Core.Path.{_∙_}
 use native.Mathlib.Omega.{arith}
 use lib.ListN.{length-set}
@@ -15,6 +15,9 @@ slice-write-state-2 c = search needs
 
 slice-write-state-3 : tie.Need-slice-write-state-3
 slice-write-state-3 c = search needs
+
+slice-write-state-4 : tie.Need-slice-write-state-4
+slice-write-state-4 c = search needs
 
 write-rows-requires : tie.Need-write-rows-requires
 write-rows-requires c κs = simp length-set (omega arith)
@@ -35,6 +38,7 @@ write-state-spec =
     slice-write-state
     slice-write-state-2
     slice-write-state-3
+    slice-write-state-4
     write-rows-requires
     same-length
     returns)

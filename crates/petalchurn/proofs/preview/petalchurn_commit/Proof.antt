@@ -1,4 +1,4 @@
--- `petalchurn_commit`: no state, numbers or lengths that do not suit, a count that is not the judge's; else the push.
+-- `petalchurn_commit`: no state, numbers or lengths that do not suit, a count that is not the judge's; else what `take_into` gives.
 use mathlib.Core.Path.{_≡_, sym, _∙_}
 use mathlib.Core.Bool.{true}
 use native.Mathlib.Omega.{arith}
@@ -80,23 +80,23 @@ module _ (c : tie.Else3) where
   current : c .before .is-current .result ≡ true
   current = not-false (c .before .is-current .result) (c .if3 .left)
 
-sub-petalchurn-push : tie.Need-sub-petalchurn-push
-sub-petalchurn-push c =
+sub-take-into : tie.Need-sub-take-into
+sub-take-into c =
     let e = c .before .before .before in
     let l = current-has (s (at e) .args .ticket .now) _ (sym (e .before .is-current .ensures) ∙ current e) in
     omega (arith, l)
 
-part-petalchurn-push-start : tie.Need-part-petalchurn-push-start
-part-petalchurn-push-start c =
+part-take-into-start : tie.Need-part-take-into-start
+part-take-into-start c =
     let e = c .before .before .before in
     let l = current-has (s (at e) .args .ticket .now) _ (sym (e .before .is-current .ensures) ∙ current e) in
     omega (arith, l)
 
-part-petalchurn-push-end : tie.Need-part-petalchurn-push-end
-part-petalchurn-push-end c = search needs
+part-take-into-end : tie.Need-part-take-into-end
+part-take-into-end c = search needs
 
-petalchurn-push-requires : tie.Need-petalchurn-push-requires
-petalchurn-push-requires c κs = search needs
+take-into-requires : tie.Need-take-into-requires
+take-into-requires c κs = some (at (c .before .before .before .before))
 
 same-length-4 : tie.Need-same-length-4
 same-length-4 c = search needs
@@ -113,7 +113,7 @@ returns-4 c =
     let e = p .before .before .before .before .before in
     let a = s (at e) .args in
     commit-done (a .state .now) (a .log .now) (a .work .now) (a .ticket .now) (some (at e))
-    (sym (e .before .is-current .ensures) ∙ current e) (p .petalchurn-push .ensures)
+    (sym (e .before .is-current .ensures) ∙ current e) (p .take-into .ensures)
 
 pub petalchurn-commit-spec : {M : Type 1} → statement M
 petalchurn-commit-spec =
@@ -130,10 +130,10 @@ petalchurn-commit-spec =
     is-current-requires
     same-length-3
     returns-3
-    sub-petalchurn-push
-    part-petalchurn-push-start
-    part-petalchurn-push-end
-    petalchurn-push-requires
+    sub-take-into
+    part-take-into-start
+    part-take-into-end
+    take-into-requires
     same-length-4
     same-length-5
     same-length-6

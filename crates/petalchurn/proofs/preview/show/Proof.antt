@@ -7,7 +7,7 @@ use Rattle.petalchurn.proofs.preview.show.Tie as tie
 -- where the core has answered
 module _ (c : tie.After-preview) where
   abbrev copied : tie.After-copy-rows
-  copied = c .before .before .before .before .before .before .before
+  copied = c .before .before .before .before .before .before .before .before
 
   abbrev s : tie.Start
   s = copied .before .before .before .before .before .before .before
@@ -20,6 +20,9 @@ shared-slice-read-cap c = search needs
 
 shared-slice-read-n : tie.Need-shared-slice-read-n
 shared-slice-read-n c = search needs
+
+shared-slice-read-events : tie.Need-shared-slice-read-events
+shared-slice-read-events c = search needs
 
 shared-slice-read-tenant : tie.Need-shared-slice-read-tenant
 shared-slice-read-tenant c = search needs
@@ -77,6 +80,7 @@ show-spec =
     copy-rows-requires
     shared-slice-read-cap
     shared-slice-read-n
+    shared-slice-read-events
     shared-slice-read-tenant
     sub-preview
     part-preview-start
