@@ -1,4 +1,4 @@
-//! Bytes to the Rust's own event with nothing between: no decoded record, no test of the form.
+//! Bytes to the Rust's own events with nothing between: no decoded record, no test of the form.
 
 use ananke_env::sim::TraceRecord;
 use ananke_env::{
@@ -6,6 +6,7 @@ use ananke_env::{
     RecoveredAs, TraceEvent,
 };
 use bytes::Bytes;
+use oracle::wire::RECORD;
 
 fn number(bytes: &[u8], at: usize) -> u64 {
     u64::from_le_bytes(bytes[at..at + 8].try_into().expect("eight bytes"))
@@ -117,21 +118,44 @@ fn installed(bytes: &[u8]) -> TraceEvent {
     }
 }
 
-fn meta_applied(bytes: &[u8]) -> TraceEvent {
-    let (start, end) = span(bytes, 0);
-    let row = MetaDescriptor {
-        range: number(bytes, 8),
-        start,
-        end,
-        generation: number(bytes, 32),
-        voters: voters(bytes),
-        won: (1..usize::from(bytes[49])).map(|i| span(bytes, i)).collect(),
-    };
-    TraceEvent::MetaApplied { index: number(bytes, 16), descriptors: vec![row] }
+fn won(bytes: &[u8]) -> Option<(Bytes, Bytes)> {
+    (bytes[49] == 2).then(|| span(bytes, 1))
 }
 
-/// The event of a record that is sound.
-pub fn event(bytes: &[u8]) -> TraceRecord {
+/// Whether two records of an event name one descriptor: range, generation, voters and span.
+fn is_same_row(a: &[u8], b: &[u8]) -> bool {
+    a[8..16] == b[8..16] && a[32..40] == b[32..40] && a[48] == b[48] && a[56..176] == b[56..176]
+}
+
+/// All records of an event: a descriptor for each, or a won span more of the one before.
+fn meta_applied(records: &[[u8; RECORD]]) -> TraceEvent {
+    let mut descriptors: Vec<MetaDescriptor> = Vec::with_capacity(records.len());
+    for (i, bytes) in records.iter().enumerate() {
+        if i > 0 && is_same_row(&records[i - 1], bytes) {
+            descriptors.last_mut().expect("a row").won.extend(won(bytes));
+            continue;
+        }
+        let (start, end) = span(bytes, 0);
+        descriptors.push(MetaDescriptor {
+            range: number(bytes, 8),
+            start,
+            end,
+            generation: number(bytes, 32),
+            voters: voters(bytes),
+            won: won(bytes).into_iter().collect(),
+        });
+    }
+    TraceEvent::MetaApplied { index: number(&records[0], 16), descriptors }
+}
+
+/// The records of each event of a sound trace: kind 12 with the flag continues one.
+pub fn grouped(trace: &[u8]) -> impl Iterator<Item = &[[u8; RECORD]]> {
+    trace.as_chunks().0.chunk_by(|_, next: &[u8; RECORD]| next[0] == 12 && next[3] == 1)
+}
+
+/// The event of its records, which are sound.
+pub fn event(records: &[[u8; RECORD]]) -> TraceRecord {
+    let bytes = &records[0];
     let node = u32::from_le_bytes(bytes[4..8].try_into().expect("four bytes"));
     let event = match bytes[0] {
         1 => created(bytes),
@@ -161,7 +185,7 @@ pub fn event(bytes: &[u8]) -> TraceRecord {
             last: number(bytes, 40),
             index: number(bytes, 16),
         },
-        _ => meta_applied(bytes),
+        _ => meta_applied(records),
     };
     let node = (bytes[1] == 1).then(|| NodeId::new(node));
     TraceRecord { at: Instant::ZERO, decided: Instant::ZERO, node, event }

@@ -23,9 +23,14 @@ use sides::Buffers;
 const SIZES: [usize; 3] = [96, 512, 4096];
 const TENANT: u64 = 0;
 
-/// The stories: how many replicas tell of a meta apply, how many records in a hundred go wrong.
-const STORIES: [(&str, u64, u64); 3] =
-    [("well-behaved", 3, 0), ("well-behaved, meta told once", 1, 0), ("with faults", 3, 3)];
+/// The stories: how many replicas tell of a meta apply, how many records in a hundred go wrong, and
+/// how many ranges a meta apply names, which are the records of its event.
+const STORIES: [(&str, (u64, u64, u64)); 4] = [
+    ("well-behaved", (3, 0, 1)),
+    ("well-behaved, meta told once", (1, 0, 1)),
+    ("well-behaved, meta events of six", (3, 0, 6)),
+    ("with faults", (3, 3, 1)),
+];
 
 /// A trace as bytes, with its events and the Rust's reports.
 struct Trace {
@@ -39,9 +44,9 @@ impl Trace {
         let bytes: Vec<u8> = records.iter().flat_map(Record::encode).collect();
         let mut oracle = Oracle::open(TENANT);
         for record in records {
-            oracle.push(record);
+            assert_eq!(oracle.push(record), 0, "a record that is taken");
         }
-        let events = bytes.chunks(368).map(direct::event).collect();
+        let events = direct::grouped(&bytes).map(direct::event).collect();
         Trace { bytes, events, reports: *oracle.reports() }
     }
 }
@@ -59,9 +64,10 @@ fn row(name: &str, size: usize, traces: Vec<Vec<Record>>) -> Row {
 }
 
 /// Stories of different seeds, so that no run learns one trace by heart: fewer of the long ones.
-fn stories(name: &str, size: usize, tellers: u64, noise: u64) -> Row {
+fn stories(name: &str, size: usize, (tellers, noise, named): (u64, u64, u64)) -> Row {
     let count = (16_384 / size as u64).clamp(4, 32);
-    let told = (1..=count).map(|seed| story::story(seed, size, tellers, noise)).collect();
+    let story = |seed| story::story(seed, size, tellers, noise, named);
+    let told = (1..=count).map(story).collect();
     row(name, size, told)
 }
 
@@ -77,7 +83,7 @@ fn compare(row: &Row, loose: bool) {
         let pushed = buffers.state();
         buffers.preview(TENANT, &trace.bytes);
         assert_eq!(buffers.state(), pushed, "{}: pushes and commits differ", row.name);
-        assert_eq!(buffers.previewed(), pushed[3..], "{}: a preview and its record", row.name);
+        assert_eq!(buffers.previewed(), pushed[sides::HEADER..], "{}: a preview and its record", row.name);
         for check in 0..CHECKS.len() {
             let (ours, rust) = (reports[check], trace.reports[check]);
             if ours != rust {
@@ -168,9 +174,9 @@ fn is_wanted(words: &[String], name: &str) -> bool {
 fn rows(words: &[String], hard: bool) -> Vec<Row> {
     let wanted = |name: &str| is_wanted(words, name);
     let mut rows = Vec::new();
-    for (name, tellers, noise) in STORIES {
+    for (name, told) in STORIES {
         if wanted(name) {
-            rows.extend(SIZES.map(|size| stories(name, size, tellers, noise)));
+            rows.extend(SIZES.map(|size| stories(name, size, told)));
         }
     }
     let hard: &[_] = if hard { &hard::HARD } else { &[] };

@@ -3,7 +3,7 @@
 use std::hint::black_box;
 
 use ananke_env::sim::TraceRecord;
-use oracle::decode::unmarked;
+use oracle::decode::{unmarked, whole};
 use oracle::driver::Five;
 use oracle::report::{CHECKS, Report, Reports};
 use oracle::wire::{RECORD, Record};
@@ -78,8 +78,9 @@ unsafe extern "C" {
 /// How many words an answer has: records taken, the refused record, eight reports of seven.
 const ANSWER: usize = 58;
 
-/// How many words a judge has: capacity, count, tenant, eight reports of seven.
-pub const STATE: usize = 59;
+/// How many words a judge has: capacity, count, events, tenant, eight reports of seven.
+pub const STATE: usize = HEADER + REPORTS;
+pub const HEADER: usize = 4;
 
 /// How many words a preview's reports have, and how many bytes its ticket.
 const REPORTS: usize = 56;
@@ -210,7 +211,7 @@ impl Buffers {
 
     /// The same of the last trace that was pushed or committed.
     pub fn pushed(&self) -> (u64, Reports) {
-        (self.state[1], std::array::from_fn(|check| report(&self.state[3 + 7 * check..])))
+        (self.state[1], std::array::from_fn(|check| report(&self.state[HEADER + 7 * check..])))
     }
 
     /// The judge of the last trace that was pushed or committed.
@@ -237,9 +238,13 @@ fn report(words: &[u64]) -> Report {
 /// not measured.
 pub fn rust(tenant: u64, trace: &[u8]) -> Five {
     let mut five = Five::default();
-    for bytes in trace.chunks(RECORD) {
-        let record = Record::decode(bytes).expect("a sound record");
-        five.push(&unmarked(&record), tenant);
+    let read = |bytes: &[u8; RECORD]| Record::decode(bytes).expect("a sound record");
+    for records in direct::grouped(trace) {
+        let event = match records {
+            [one] => unmarked(&read(one)),
+            _ => whole(&records.iter().map(read).collect::<Vec<_>>()),
+        };
+        five.push(&event, tenant);
     }
     verdicts(&five);
     five
@@ -248,8 +253,8 @@ pub fn rust(tenant: u64, trace: &[u8]) -> Five {
 /// The same with a decoder that tests nothing and makes the event at once.
 pub fn rust_direct(tenant: u64, trace: &[u8]) -> Five {
     let mut five = Five::default();
-    for bytes in trace.chunks(RECORD) {
-        five.push(&direct::event(bytes), tenant);
+    for records in direct::grouped(trace) {
+        five.push(&direct::event(records), tenant);
     }
     verdicts(&five);
     five
@@ -265,11 +270,12 @@ pub fn rust_decoded(tenant: u64, events: &[TraceRecord]) -> Five {
     five
 }
 
-/// As `rust_direct`, with the eight verdicts after each record: what the judge gives.
+/// As `rust_direct`, with the eight verdicts after each event. The judge gives them after each
+/// record, inside an event too, which the Rust cannot do.
 pub fn rust_each(tenant: u64, trace: &[u8]) -> Five {
     let mut five = Five::default();
-    for bytes in trace.chunks(RECORD) {
-        five.push(&direct::event(bytes), tenant);
+    for records in direct::grouped(trace) {
+        five.push(&direct::event(records), tenant);
         verdicts(&five);
     }
     five

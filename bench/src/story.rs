@@ -28,8 +28,9 @@ struct Range {
 
 struct Cluster {
     random: Random,
-    /// How many replicas of the meta range tell of each apply.
+    /// How many replicas of the meta range tell of each apply, and how many ranges it names.
     tellers: u64,
+    named: u64,
     ranges: Vec<Range>,
     meta: u64,
     leases: u64,
@@ -74,7 +75,7 @@ fn apply(node: u64, sub: u8, range: &Range) -> Record {
 }
 
 impl Cluster {
-    fn new(seed: u64, tellers: u64) -> Cluster {
+    fn new(seed: u64, tellers: u64, named: u64) -> Cluster {
         let range = |i: u64| {
             let voters: Vec<u64> = (0..3).map(|k| (i + k) % NODES + 1).collect();
             Range {
@@ -90,7 +91,8 @@ impl Cluster {
         };
         let ranges = (0..FIRST).map(range).collect();
         let (meta, leases, next) = (0, 0, 100);
-        Cluster { random: Random::new(seed), tellers, ranges, meta, leases, next, told: Vec::new() }
+        let random = Random::new(seed);
+        Cluster { random, tellers, named, ranges, meta, leases, next, told: Vec::new() }
     }
 
     fn tell(&mut self, record: Record) {
@@ -159,15 +161,20 @@ impl Cluster {
         }
     }
 
-    /// The meta range has nodes 1 to 3, and won the whole of the span.
+    /// The meta range has nodes 1 to 3, and won the whole of the span. Where an apply names several
+    /// ranges, they are this one and those after it, as one event.
     fn meta(&mut self, at: usize) {
         self.meta += 1;
-        let range = self.ranges[at].clone();
+        let many = self.ranges.len().min(self.named as usize);
         for node in 1..=self.tellers {
-            let mut named = record(12, node, [range.id, self.meta, 0, range.generation, 0]);
-            named.voters = range.voters.clone();
-            named.spans = vec![span_of(&range), span_of(&range)];
-            self.tell(named);
+            for more in 0..many {
+                let range = self.ranges[(at + more) % self.ranges.len()].clone();
+                let mut named = record(12, node, [range.id, self.meta, 0, range.generation, 0]);
+                named.flag = u8::from(more > 0);
+                named.voters = range.voters.clone();
+                named.spans = vec![span_of(&range), span_of(&range)];
+                self.tell(named);
+            }
         }
     }
 
@@ -266,10 +273,10 @@ impl Cluster {
     }
 }
 
-/// A story of so many records, each meta apply told by so many replicas; in so many of a
-/// hundred records something goes wrong.
-pub fn story(seed: u64, length: usize, tellers: u64, noise: u64) -> Vec<Record> {
-    let mut cluster = Cluster::new(seed, tellers);
+/// A story of so many records, each meta apply told by so many replicas and naming so many ranges;
+/// in so many of a hundred records something goes wrong.
+pub fn story(seed: u64, length: usize, tellers: u64, noise: u64, named: u64) -> Vec<Record> {
+    let mut cluster = Cluster::new(seed, tellers, named);
     cluster.bootstrap();
     while cluster.told.len() < length + length / 10 + 10 {
         cluster.step();

@@ -6,7 +6,7 @@ use std::hint::black_box;
 use oracle::report::KINDS;
 use oracle::wire::Record;
 
-use crate::sides::{Buffers, STATE};
+use crate::sides::{Buffers, HEADER, STATE};
 use crate::{STORIES, TENANT, clock, is_wanted, story};
 
 unsafe extern "C" {
@@ -74,7 +74,7 @@ fn plain(state: &[u64], tally: &mut [u8]) -> u64 {
     }
     let mut places = [0; KINDS.len()];
     for check in 0..KINDS.len() {
-        let kind = state[3 + 7 * check];
+        let kind = state[HEADER + 7 * check];
         if kind > u64::from(KINDS[check]) {
             return 5;
         }
@@ -95,10 +95,10 @@ fn plain(state: &[u64], tally: &mut [u8]) -> u64 {
 }
 
 /// The judges of stories of different seeds, so that no run learns one by heart.
-fn judges(tellers: u64, noise: u64) -> Vec<Judge> {
+fn judges((tellers, noise, named): (u64, u64, u64)) -> Vec<Judge> {
     let mut buffers = Buffers::new(RECORDS);
     let judge = |seed| {
-        let records = story::story(seed, RECORDS, tellers, noise);
+        let records = story::story(seed, RECORDS, tellers, noise, named);
         let bytes: Vec<u8> = records.iter().flat_map(Record::encode).collect();
         buffers.push(TENANT, &bytes);
         buffers.state()
@@ -107,7 +107,7 @@ fn judges(tellers: u64, noise: u64) -> Vec<Judge> {
 }
 
 fn faults(judges: &[Judge]) -> usize {
-    let kinds = judges.iter().flat_map(|judge| judge[3..].iter().step_by(7));
+    let kinds = judges.iter().flat_map(|judge| judge[HEADER..].iter().step_by(7));
     kinds.filter(|kind| **kind != 0).count()
 }
 
@@ -118,7 +118,7 @@ fn compare(judges: &[Judge]) {
         same(judge, &mut tallies, 0);
     }
     let mut unknown = judges[0];
-    unknown[3] = 10;
+    unknown[HEADER] = 10;
     same(&unknown, &mut tallies, 5);
     let mut unused = tallies.map(|mut tally| {
         tally[SIZE - 1] = 1;
@@ -165,14 +165,14 @@ fn measure(judges: &[Judge], rounds: usize) -> [f64; 2] {
 /// The rows whose names have one of the words: the judges of the well-behaved stories and of
 /// those with faults.
 pub fn print(words: &[String], rounds: usize) {
-    let rows = [STORIES[0], STORIES[2]].map(|(name, t, n)| (format!("tally: {name}"), t, n));
+    let rows = [STORIES[0], STORIES[3]].map(|(name, told)| (format!("tally: {name}"), told));
     let wanted: Vec<_> = rows.iter().filter(|(name, ..)| is_wanted(words, name)).collect();
     if !wanted.is_empty() {
         println!("\n| entry into a tally | judges | faults | library | plain | library/plain |");
         println!("|---|---|---|---|---|---|");
     }
-    for (name, tellers, noise) in wanted {
-        let judges = judges(*tellers, *noise);
+    for (name, told) in wanted {
+        let judges = judges(*told);
         compare(&judges);
         let (faults, [ours, plain]) = (faults(&judges), measure(&judges, rounds));
         println!("| {name} | {JUDGES} | {faults} | {ours:.0} | {plain:.0} | {:.1} |", ours / plain);

@@ -124,7 +124,7 @@ fn with(mut record: Bytes, at: usize) -> Bytes {
 fn told() -> Vec<(Bytes, Bytes)> {
     let mut pairs = Vec::new();
     for seed in 1..=4 {
-        let told = story::story(seed, 4096, 3, 0);
+        let told = story::story(seed, 4096, 3, 0, 1);
         let values: Vec<Bytes> = told.iter().map(Record::encode).filter(|r| r[0] < 3).collect();
         for (i, value) in values.iter().enumerate() {
             let earlier = values[..i].iter().rev().find(|earlier| earlier[8..16] == value[8..16]);

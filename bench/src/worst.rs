@@ -43,6 +43,15 @@ pub fn metas(n: usize, generations: u64, name: impl Fn(usize, u64) -> (u64, u64,
     records
 }
 
+/// Disjoint spans, eight records to an event.
+fn eight_to_an_event(n: usize) -> Vec<Record> {
+    let mut records = metas(n, 1, |i, _| (i as u64 / 8 + 1, 0, slot(i)));
+    for (i, record) in records[1..].iter_mut().enumerate() {
+        record.flag = u8::from(i % 8 > 0);
+    }
+    records
+}
+
 fn puts(n: usize) -> Vec<Record> {
     let put = |i: u64| descriptor(Some(1), [1, i, i, i, 0], all());
     (1..=n as u64).map(put).collect()
@@ -213,12 +222,13 @@ fn grants_falling(n: usize) -> Vec<Record> {
 pub type Maker = fn(usize) -> Vec<Record>;
 
 /// The traces by name.
-pub const WORST: [(&str, Maker); 17] = [
+pub const WORST: [(&str, Maker); 18] = [
     ("one range: puts at rising indexes", puts),
     ("one range: one put, then statements", statements),
     ("one range: puts, each restated", puts_and_statements),
     ("fifty ranges at three nodes", fifty_ranges),
     ("kind 12, disjoint spans", |n| metas(n, 1, |i, at| (at, 0, slot(i)))),
+    ("kind 12, disjoint spans, eight to an event", eight_to_an_event),
     ("kind 12, each wins everything", |n| metas(n, 1, |_, at| (at, 0, all()))),
     ("kind 12, disjoint, generations vary", |n| metas(n, 16, |i, at| (at, at * 7 % 16, slot(i)))),
     ("kind 12, disjoint, indexes fall", |n| metas(n, 1, |i, at| (10_000 - at, 0, slot(i)))),

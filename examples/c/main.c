@@ -1,5 +1,5 @@
 /* A C host: the library's version, then two grants of ids that share an id, the first pushed, the second shown to an operator and
- * then committed, counted in a tally, and then judged as one trace. */
+ * then committed, counted in a tally, and then judged as one trace; and last an event of two records. */
 #include <inttypes.h>
 #include <stdio.h>
 #include <string.h>
@@ -31,6 +31,19 @@ static void grant(uint8_t *rec, uint64_t node, uint64_t index, uint64_t run, uin
     put_number(rec, 24, run);
     put_number(rec, 32, first);
     put_number(rec, 40, last);
+}
+
+/* The descriptor of range 1, [b, f) and no voters: kind 2 puts it at an index, kind 12 says that the meta range names it. */
+static void descriptor(uint8_t *rec, uint8_t kind, uint64_t index, uint64_t generation) {
+    memset(rec, 0, PETALCHURN_RECORD_SIZE);
+    rec[0] = kind;
+    rec[2] = kind == 2 ? 1 : 0;
+    put_number(rec, 8, 1);
+    put_number(rec, 16, index);
+    put_number(rec, 32, generation);
+    rec[49] = 1;
+    memcpy(rec + 112, "\001b", 2);
+    memcpy(rec + 144, "\001f", 2);
 }
 
 static void print_report(const char *check, const uint64_t *report) {
@@ -97,6 +110,33 @@ static void show_then_commit(const uint8_t *rec) {
     printf("%s\n", is_zeros() ? "a ticket of zeros" : "a ticket");
 }
 
+/* A push, and what the judge then has: the second word of state counts records, the third events. */
+static void push_counted(const uint8_t *rec) {
+    uint64_t refusal = push(rec, PETALCHURN_RECORD_SIZE);
+    printf("push %" PRIu64 ": record %" PRIu64 ", event %" PRIu64 "\n", refusal, state[1], state[2]);
+}
+
+/* A descriptor, and then one meta apply that names two: kind 12 with flag 1 continues the event before it. The second is unknown,
+ * and the fault has the number of the event. With another index nothing is continued. */
+static void show_event(void) {
+    uint8_t rec[PETALCHURN_RECORD_SIZE];
+    uint64_t report[PETALCHURN_REPORT_WORDS];
+    printf("open %" PRIu64 "\n",
+           petalchurn_open(0, log_bytes, sizeof log_bytes, work, CAPACITY * PETALCHURN_WORK_WORDS, state, PETALCHURN_STATE_WORDS));
+    descriptor(rec, 2, 3, 1);
+    push_counted(rec);
+    descriptor(rec, 12, 10, 1);
+    push_counted(rec);
+    descriptor(rec, 12, 11, 2);
+    rec[3] = 1;
+    push_counted(rec);
+    descriptor(rec, 12, 10, 2);
+    rec[3] = 1;
+    push_counted(rec);
+    petalchurn_report(state, PETALCHURN_STATE_WORDS, 8, report, PETALCHURN_REPORT_WORDS);
+    print_report(checks[7], report);
+}
+
 int main(void) {
     uint8_t trace[2 * PETALCHURN_RECORD_SIZE];
     uint8_t *second = trace + PETALCHURN_RECORD_SIZE;
@@ -140,5 +180,7 @@ int main(void) {
         print_report(checks[i], answer + 2 + PETALCHURN_REPORT_WORDS * i);
     printf("records %" PRIu64 "\n", answer[0]);
     printf("refused at %" PRIu64 "\n", answer[1]);
+
+    show_event();
     return 0;
 }

@@ -1,5 +1,5 @@
 //! A Rust host: the library's version, then two grants of ids that share an id, the first pushed, the second shown to an operator
-//! and then committed, counted in a tally, and then judged as one trace.
+//! and then committed, counted in a tally, and then judged as one trace; and last an event of two records.
 
 /// What a look-up answers: the refusal's number, and the value, 0 where the call is refused.
 #[repr(C)]
@@ -106,10 +106,10 @@ mod library {
 }
 
 // The macros of the header.
-const VERSION: u64 = 4;
+const VERSION: u64 = 5;
 const RECORD_SIZE: usize = 368;
 const WORK_WORDS: usize = 32;
-const STATE_WORDS: usize = 59;
+const STATE_WORDS: usize = 60;
 const REPORT_WORDS: usize = 7;
 const TRACE_WORDS: usize = 58;
 const TALLY_SIZE: usize = 360;
@@ -288,6 +288,21 @@ fn grant(node: u64, index: u64, run: u64, first: u64, last: u64) -> [u8; RECORD_
     rec
 }
 
+/// The descriptor of range 1, [b, f) and no voters: kind 2 puts it at an index, kind 12 says that the meta range names it.
+fn descriptor(kind: u8, flag: u8, index: u64, generation: u64) -> [u8; RECORD_SIZE] {
+    let mut rec = [0u8; RECORD_SIZE];
+    rec[0] = kind;
+    rec[2] = u8::from(kind == 2);
+    rec[3] = flag;
+    for (at, number) in [(8, 1), (16, index), (32, generation)] {
+        rec[at..at + 8].copy_from_slice(&number.to_le_bytes());
+    }
+    rec[49] = 1;
+    rec[112..114].copy_from_slice(b"\x01b");
+    rec[144..146].copy_from_slice(b"\x01f");
+    rec
+}
+
 fn words(list: &[u64]) -> String {
     list.iter().map(|word| format!(" {word}")).collect()
 }
@@ -325,6 +340,25 @@ fn show_then_commit(judge: &mut Judge, rec: &[u8]) {
     let torn = judge.preview(&rec[..RECORD_SIZE - 1]);
     let given = if torn.ticket == [0; TICKET_SIZE] { "a ticket of zeros" } else { "a ticket" };
     println!("preview of 367 bytes {}, {given}", torn.refusal);
+}
+
+/// A push, and what the judge then has: the second word of its state counts records, the third events.
+fn push_counted(judge: &mut Judge, rec: &[u8]) {
+    let refusal = judge.push(rec);
+    println!("push {refusal}: record {}, event {}", judge.state[1], judge.state[2]);
+}
+
+/// A descriptor, and then one meta apply that names two: kind 12 with flag 1 continues the event before it. The second is unknown,
+/// and the fault has the number of the event. With another index nothing is continued.
+fn show_event(mut judge: Judge) {
+    println!("open 0");
+    push_counted(&mut judge, &descriptor(2, 0, 3, 1));
+    push_counted(&mut judge, &descriptor(12, 0, 10, 1));
+    push_counted(&mut judge, &descriptor(12, 1, 11, 2));
+    push_counted(&mut judge, &descriptor(12, 1, 10, 2));
+    let mut report = [0; REPORT_WORDS];
+    judge.report(8, &mut report);
+    print_report(CHECKS[7], &report);
 }
 
 /// The count at a place of a record of a tally: of a check in printing order, or of the totals, the last.
@@ -378,4 +412,9 @@ fn main() {
     }
     println!("records {}", answer[0]);
     println!("refused at {}", answer[1]);
+
+    match Judge::open(0, 96) {
+        Ok(judge) => show_event(judge),
+        Err(refusal) => println!("open {refusal}"),
+    }
 }

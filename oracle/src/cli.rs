@@ -51,18 +51,15 @@ pub fn wishes() -> Wishes {
     out
 }
 
-/// Judges standard input record by record and prints what was wished.
+/// Judges standard input record by record and prints what was wished. The judge
+/// has the room that was wished.
 pub fn run(judge: &mut impl Judging, wishes: &Wishes) {
     let mut bytes = Vec::new();
     std::io::stdin().read_to_end(&mut bytes).expect("standard input");
     let mut taken: Vec<Record> = Vec::new();
     let mut refused = None;
     for stretch in bytes.chunks(RECORD) {
-        let full = taken.len() as u64 == wishes.capacity;
-        let refusal = match Record::decode(stretch) {
-            Ok(_) if full => 6,
-            _ => judge.take(stretch),
-        };
+        let refusal = judge.take(stretch);
         if refusal != 0 {
             refused = Some(refusal);
             break;

@@ -26,6 +26,8 @@ struct Cluster {
     meta: u64,
     leases: u64,
     next: u64,
+    /// The most records of a meta apply.
+    most: u64,
     told: Vec<Record>,
 }
 
@@ -52,7 +54,7 @@ fn descriptor(node: u64, range: &Range, applied: u64) -> Record {
 }
 
 impl Cluster {
-    fn new(random: &mut Random) -> Cluster {
+    fn new(random: &mut Random, most: u64) -> Cluster {
         let nodes = random.from_to(1, 3);
         let voters: Vec<u64> = (1..=nodes).collect();
         let range = |id: u64, start: &[u8], end: &[u8]| Range {
@@ -65,7 +67,7 @@ impl Cluster {
         };
         let ranges = vec![range(2, b"b", b"k"), range(3, b"k", b"t")];
         let random = Random::new(random.next());
-        Cluster { random, nodes, ranges, meta: 0, leases: 0, next: 10, told: Vec::new() }
+        Cluster { random, nodes, ranges, meta: 0, leases: 0, next: 10, most, told: Vec::new() }
     }
 
     fn tell(&mut self, record: Record) {
@@ -144,10 +146,35 @@ impl Cluster {
         let at = self.choose();
         let range = self.ranges[at].clone();
         let node = self.random.from_to(1, self.nodes);
+        self.name(node, &range, range.span.clone());
+        if self.most > 1 {
+            self.name_more(node, at);
+        }
+    }
+
+    /// A record of a meta apply: the descriptor, and a span that it won.
+    fn name(&mut self, node: u64, range: &Range, won: Span) {
         let mut named = record(12, node, [range.id, self.meta, 0, range.generation, 0]);
         named.voters = range.voters.clone();
-        named.spans = vec![range.span.clone(), range.span.clone()];
+        named.spans = vec![range.span.clone(), won];
         self.tell(named);
+    }
+
+    /// The same apply names other ranges too, and some by two spans: one event.
+    fn name_more(&mut self, node: u64, at: usize) {
+        let many = self.random.below(self.most);
+        let from = self.told.len();
+        for range in self.ranges.clone().into_iter().skip(at + 1) {
+            let middle = Self::middle(&range.span).filter(|_| self.random.percent(40));
+            let (start, end) = range.span.clone();
+            let middle = middle.unwrap_or(end.clone());
+            self.name(node, &range, (start, middle.clone()));
+            if middle != end {
+                self.name(node, &range, (middle, end));
+            }
+        }
+        self.told.truncate(from + many as usize);
+        self.told[from..].iter_mut().for_each(|record| record.flag = 1);
     }
 
     fn restart(&mut self) {
@@ -225,9 +252,10 @@ impl Cluster {
     }
 }
 
-/// A story of so many records at most; `noise` records in a hundred go wrong.
-pub fn story(random: &mut Random, length: usize, noise: u64) -> Vec<Record> {
-    let mut cluster = Cluster::new(random);
+/// A story of so many records at most; `noise` records in a hundred go wrong. A
+/// meta apply has up to `most` records.
+pub fn story(random: &mut Random, length: usize, noise: u64, most: u64) -> Vec<Record> {
+    let mut cluster = Cluster::new(random, most);
     cluster.bootstrap();
     while cluster.told.len() < length {
         cluster.step();

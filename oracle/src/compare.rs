@@ -3,7 +3,9 @@
 
 use std::mem;
 
-use crate::decode::{Marks, meta_event, unmarked};
+use ananke_env::sim::TraceRecord;
+
+use crate::decode::{Marks, events, meta_event, meta_event_apart, unmarked};
 use crate::driver::{Five, Oracle, judge_whole};
 use crate::generate::{Trace, trace};
 use crate::judging::Judging;
@@ -18,8 +20,11 @@ use crate::wire::Record;
 #[derive(Default)]
 pub struct Comparer {
     marks: Marks,
-    /// Look-ups compared so far.
+    /// Look-ups compared so far, records taken that continue an event, and records
+    /// that both refused since they continue nothing.
     pub asked: u64,
+    pub continued: u64,
+    pub refused: u64,
 }
 
 /// Whether look-ups are asked after each record, or at the end only.
@@ -52,9 +57,19 @@ impl Comparer {
         let found = self.walk(&mut oracle, judge, records, asking);
         let reports = *oracle.reports();
         self.marks = oracle.into_marks();
-        found?;
-        events_agree(&reports, records, tenant)?;
+        let taken = found?;
+        self.continued += taken.iter().filter(|record| record.continues()).count() as u64;
+        self.refused += (records.len() - taken.len()) as u64;
+        feedings_agree(&reports, &taken, tenant)?;
         Ok(reports)
+    }
+
+    /// What is said of the records so far beside the table.
+    pub fn counted(&self) -> String {
+        let Comparer { asked, continued, refused, .. } = self;
+        format!(
+            "look-ups compared: {asked}; records that continue: {continued}, refused by 11: {refused}"
+        )
     }
 
     fn walk(
@@ -63,12 +78,15 @@ impl Comparer {
         judge: &mut impl Judging,
         records: &[Record],
         asking: Asking,
-    ) -> Result<(), String> {
+    ) -> Result<Vec<Record>, String> {
+        let mut taken = Vec::with_capacity(records.len());
         for (place, record) in records.iter().enumerate() {
             let bytes = record.encode();
             let (theirs, ours) = (oracle.take(&bytes), judge.take(&bytes));
-            if (theirs, ours) != (0, 0) {
-                return Err(format!("record {}: refused {theirs}, {ours}", place + 1));
+            match (theirs, ours) {
+                (0, 0) => taken.push(record.clone()),
+                (11, 11) => {}
+                _ => return Err(format!("record {}: refused {theirs}, {ours}", place + 1)),
             }
             if let Some(words) = judge.amiss() {
                 return Err(format!("record {}: {words}", place + 1));
@@ -81,7 +99,7 @@ impl Comparer {
         if !oracle.first_faults_stand() {
             return Err("a verdict no longer says its first fault".to_owned());
         }
-        Ok(())
+        Ok(taken)
     }
 
     fn same_answers(
@@ -112,28 +130,62 @@ fn same_reports(theirs: &Reports, ours: &Reports, after: usize) -> Result<(), St
     Ok(())
 }
 
-/// Whether the Rust says the same when neighbouring kind 12 records of one node
-/// and index are one event with all their won spans, as the Rust traces them.
-fn events_agree(reports: &Reports, records: &[Record], tenant: u64) -> Result<(), String> {
-    let one_event = |a: &Record, b: &Record| {
-        a.kind == 12 && b.kind == 12 && a.node == b.node && a.numbers[1] == b.numbers[1]
-    };
-    if !records.windows(2).any(|pair| one_event(&pair[0], &pair[1])) {
-        return Ok(());
-    }
+/// Whether the records can be of one event: one apply of one node has one index.
+fn one_apply(a: &Record, b: &Record) -> bool {
+    a.kind == 12 && b.kind == 12 && a.node == b.node && a.numbers[1] == b.numbers[1]
+}
+
+/// The five structs over records that are given as so many events.
+fn fed<'a>(
+    events: impl Iterator<Item = &'a [Record]>,
+    join: fn(&[Record]) -> TraceRecord,
+    tenant: u64,
+) -> Five {
     let mut five = Five::default();
-    for event in records.chunk_by(one_event) {
-        let whole = if event.len() > 1 { meta_event(event) } else { unmarked(&event[0]) };
+    for event in events {
+        let whole = if event.len() > 1 { join(event) } else { unmarked(&event[0]) };
         five.push(&whole, tenant);
     }
-    let apart = judge_whole(records, tenant);
+    five
+}
+
+/// Whether the Rust finds the same faults however kind 12 records come to it: by
+/// their events; with a descriptor for each record of one; each as an event of its
+/// own; and neighbours of one node and index as one event, whatever their flags.
+/// Positions then differ, kinds and evidence do not.
+fn feedings_agree(reports: &Reports, records: &[Record], tenant: u64) -> Result<(), String> {
+    if !records.windows(2).any(|pair| one_apply(&pair[0], &pair[1])) {
+        return Ok(());
+    }
+    let whole = judge_whole(records, tenant);
+    let others = [
+        ("a descriptor a record", fed(events(records), meta_event_apart, tenant)),
+        ("an event a record", fed(records.chunks(1), meta_event, tenant)),
+        ("an event an apply", fed(records.chunk_by(one_apply), meta_event, tenant)),
+    ];
     for (check, report) in reports.iter().enumerate() {
-        let (whole, apart) = (five.case(check), apart.case(check));
-        if whole != apart || whole.map_or(0, |(kind, _)| kind) != report.kind {
-            return Err(format!("{}: one event and its records differ", CHECKS[check]));
+        let case = whole.case(check);
+        if case.as_ref().map_or(0, |(kind, _)| *kind) != report.kind {
+            return Err(format!("{}: the whole events differ", CHECKS[check]));
+        }
+        if let Some((name, _)) = others.iter().find(|(_, other)| other.case(check) != case) {
+            return Err(format!("{}: {name} differs from whole events", CHECKS[check]));
         }
     }
     Ok(())
+}
+
+/// The records that are taken one after the other: without those that continue
+/// nothing.
+pub fn taken(records: &[Record]) -> Vec<Record> {
+    let mut out: Vec<Record> = Vec::new();
+    for record in records {
+        let goes_on = out.last().is_some_and(|last| one_apply(last, record));
+        if !record.continues() || goes_on {
+            out.push(record.clone());
+        }
+    }
+    out
 }
 
 /// The trace number `number` of a profile: mostly short, some long.

@@ -28,12 +28,13 @@ pub fn form_file(cases: &[Case]) -> Vec<u8> {
     out
 }
 
-/// A good record of the kind: everything used and full, or as bare as may be.
+/// A good record of the kind: everything used and full, or as bare as may be. A
+/// MetaApplied begins an event.
 pub fn good(kind: u8, full: bool) -> Record {
     let form = &FORMS[usize::from(kind) - 1];
     let letter = |i: usize| u64::from_le_bytes([0x11 + i as u8; 8]);
     let key = |length: usize| (0..length).map(|i| 0x41 + i as u8).collect::<Vec<u8>>();
-    let flag = if full { form.flag } else { 0 };
+    let flag = u8::from(full && kind == 1);
     let mut numbers: [u64; 5] =
         std::array::from_fn(|i| if full && form.numbers[i] { letter(i) } else { 0 });
     if kind == 1 && flag == 0 {
@@ -56,8 +57,13 @@ pub fn good(kind: u8, full: bool) -> Record {
     }
 }
 
+/// A good MetaApplied that continues an event, the one of `good(12, full)`.
+pub fn continuing(full: bool) -> Record {
+    Record { flag: 1, ..good(12, full) }
+}
+
 /// A full and a bare record of every kind, with other counts of voters, spans
-/// and key bytes between.
+/// and key bytes between; and those that continue an event.
 pub fn bases() -> Vec<[u8; RECORD]> {
     let mut out = Vec::new();
     for kind in 1..=12 {
@@ -77,6 +83,7 @@ pub fn bases() -> Vec<[u8; RECORD]> {
             out.push(record.encode());
         }
     }
+    out.extend([false, true].map(|full| continuing(full).encode()));
     out
 }
 
@@ -146,6 +153,21 @@ fn voter_places() -> Vec<Case> {
     out
 }
 
+/// Every kind with flags of no use to it, none first: 1 is kind 1's and kind 12's.
+/// With byte 50 set as well, which alone draws 4.
+fn flags() -> Vec<Case> {
+    let mut out = Vec::new();
+    for kind in 1..=12 {
+        for flag in [0, 1, 2, 3, 4, 12, 127, 128, 254, 255] {
+            let mut base = good(kind, true).encode();
+            base[3] = flag;
+            out.push(Case::new(&base));
+            out.push(with(&base, 50, 1));
+        }
+    }
+    out
+}
+
 /// All the cases that the comparison runs.
 pub fn every_case(seed: u64) -> Vec<Case> {
     let mut random = Random::new(seed);
@@ -157,6 +179,7 @@ pub fn every_case(seed: u64) -> Vec<Case> {
         out.extend(places(base, &[0, 1, 2, 31, 32, 128, 255]));
     }
     out.extend(voter_places());
+    out.extend(flags());
     out.extend((0..100_000).map(|_| several(&mut random, &bases)));
     out
 }
@@ -177,6 +200,7 @@ pub fn stored_cases(seed: u64) -> Vec<Case> {
     out.extend(unused_places());
     out.extend(voter_places());
     out.extend((0..200).map(|_| several(&mut random, &bases)));
+    out.extend(flags());
     out
 }
 

@@ -154,19 +154,28 @@ fn meta_row(r: &Record) -> MetaDescriptor {
     }
 }
 
-/// The event of a whole run of kind 12 records: the Rust's event with all the
-/// won spans that document 01 writes as one record each.
+/// The Rust's event that is written as these kind 12 records, with all its
+/// descriptors: document 01 writes a record for each won span, so neighbours
+/// that name one descriptor are that descriptor with several won spans.
 pub fn meta_event(records: &[Record]) -> TraceRecord {
     let mut rows: Vec<MetaDescriptor> = Vec::new();
-    for record in records {
-        let row = meta_row(record);
+    for row in records.iter().map(meta_row) {
         match rows.last_mut() {
             Some(last) if same_descriptor(last, &row) => last.won.extend(row.won),
             _ => rows.push(row),
         }
     }
-    let index = records[0].numbers[1];
-    stamped(&records[0], TraceEvent::MetaApplied { index, descriptors: rows })
+    meta_stamped(&records[0], rows)
+}
+
+/// The same with a descriptor of its own for each record: the records do not say
+/// which of the two the Rust traced.
+pub fn meta_event_apart(records: &[Record]) -> TraceRecord {
+    meta_stamped(&records[0], records.iter().map(meta_row).collect())
+}
+
+fn meta_stamped(first: &Record, descriptors: Vec<MetaDescriptor>) -> TraceRecord {
+    stamped(first, TraceEvent::MetaApplied { index: first.numbers[1], descriptors })
 }
 
 fn same_descriptor(a: &MetaDescriptor, b: &MetaDescriptor) -> bool {
@@ -212,4 +221,14 @@ pub fn marked(r: &Record, number: u64, marks: &mut Marks) -> TraceRecord {
 pub fn unmarked(r: &Record) -> TraceRecord {
     let start = r.spans.first().map_or(&[][..], |(start, _)| start);
     stamped(r, event(r, plain(start)))
+}
+
+/// The records of each event: the one that begins it, and those that continue it.
+pub fn events(records: &[Record]) -> impl Iterator<Item = &[Record]> {
+    records.chunk_by(|_, next| next.continues())
+}
+
+/// The Rust's record of a whole event, without a mark.
+pub fn whole(records: &[Record]) -> TraceRecord {
+    if records.len() > 1 { meta_event(records) } else { unmarked(&records[0]) }
 }

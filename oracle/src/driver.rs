@@ -1,5 +1,9 @@
 //! The oracle: the five published structs, driven directly, Descriptors first,
-//! with the first fault of each of the eight checks kept.
+//! by whole events, with the first fault of each of the eight checks kept.
+//!
+//! A MetaApplied comes as several records. After each of them the reports are
+//! those of a run of the Rust whose last event is cut there: the structs as they
+//! stood before the event are given all of it that was taken, as one event.
 
 use ananke_env::sim::TraceRecord;
 use ananke_raft::store::set_tenant;
@@ -7,7 +11,7 @@ use ananke_shard::invariants::{
     Descriptors, GenerationsRise, Held, IdsUnique, MetaNeverGoesBack, OneOwnerPerKey,
 };
 
-use crate::decode::{Marks, marked, unmarked};
+use crate::decode::{Marks, events, marked, meta_event, whole};
 use crate::lookups::Lookups;
 use crate::report::{CHECKS, Report, Reports};
 use crate::verdict;
@@ -66,11 +70,42 @@ impl Five {
     }
 }
 
+/// The five structs as they stood at some earlier event, and the events since. An
+/// event that goes on is given anew to the structs as they stood before it; where
+/// none does, nothing is pushed here, so a long trace costs little more.
+#[derive(Default)]
+struct Behind {
+    five: Five,
+    since: Vec<TraceRecord>,
+}
+
+impl Behind {
+    /// The structs after all the events, with this one in place of the last.
+    fn with_last(&mut self, event: TraceRecord, tenant: u64) -> Five {
+        self.since.pop();
+        for event in self.since.drain(..) {
+            self.five.push(&event, tenant);
+        }
+        let mut five = self.five.clone();
+        five.push(&event, tenant);
+        self.since.push(event);
+        five
+    }
+}
+
 /// The oracle for one trace.
 pub struct Oracle {
     tenant: u64,
+    room: u64,
     five: Five,
+    behind: Behind,
+    /// Records taken, and events.
     count: u64,
+    events: u64,
+    /// The records of the last event as far as it was taken.
+    last: Vec<Record>,
+    /// The reports before the last event, and after it.
+    before: Reports,
     reports: Reports,
     marks: Marks,
 }
@@ -83,8 +118,23 @@ impl Oracle {
 
     /// The same, over marks that an earlier oracle made: they cost memory once.
     pub fn with_marks(tenant: u64, marks: Marks) -> Oracle {
-        let reports = Reports::default();
-        Oracle { tenant, five: Five::default(), count: 0, reports, marks }
+        Oracle {
+            tenant,
+            room: u64::MAX,
+            five: Five::default(),
+            behind: Behind::default(),
+            count: 0,
+            events: 0,
+            last: Vec::new(),
+            before: Reports::default(),
+            reports: Reports::default(),
+            marks,
+        }
+    }
+
+    /// The same with room for so many records. The Rust has no such limit.
+    pub fn with_room(tenant: u64, room: u64) -> Oracle {
+        Oracle { room, ..Oracle::open(tenant) }
     }
 
     /// The marks back, for the next trace.
@@ -95,20 +145,59 @@ impl Oracle {
     /// Takes a record's bytes, or gives its refusal.
     pub fn push_bytes(&mut self, bytes: &[u8]) -> Result<(), u8> {
         let record = Record::decode(bytes)?;
-        self.push(&record);
-        Ok(())
+        match self.push(&record) {
+            0 => Ok(()),
+            refusal => Err(refusal),
+        }
     }
 
-    /// Takes a decoded record.
-    pub fn push(&mut self, record: &Record) {
+    /// Takes a decoded record, or gives its refusal, 11 or 6; 0 for none.
+    pub fn push(&mut self, record: &Record) -> u8 {
+        if record.continues() && !self.goes_on_with(record) {
+            return 11;
+        }
+        if self.count == self.room {
+            return 6;
+        }
         self.count += 1;
+        if record.continues() {
+            self.go_on(record)
+        } else {
+            self.begin(record)
+        }
+        self.hear();
+        0
+    }
+
+    /// Whether the last event can be the record's: one apply of one node has one
+    /// index.
+    fn goes_on_with(&self, record: &Record) -> bool {
+        let apply = |r: &Record| (r.kind, r.node, r.numbers[1]);
+        self.last.last().is_some_and(|last| apply(last) == apply(record))
+    }
+
+    fn begin(&mut self, record: &Record) {
+        self.events += 1;
+        self.before = self.reports;
+        self.last = vec![record.clone()];
         let event = marked(record, self.count, &mut self.marks);
         self.five.push(&event, self.tenant);
+        self.behind.since.push(event);
+    }
+
+    fn go_on(&mut self, record: &Record) {
+        self.last.push(record.clone());
+        self.five = self.behind.with_last(meta_event(&self.last), self.tenant);
+    }
+
+    /// The reports after the last event as far as it was taken.
+    fn hear(&mut self) {
+        self.reports = self.before;
         for check in 0..CHECKS.len() {
             if self.reports[check].kind == 0
                 && let Some((kind, evidence)) = self.five.case(check)
             {
-                self.reports[check] = Report::fault(kind, self.count, &evidence);
+                self.reports[check] = Report::fault(kind, self.events, &evidence);
             }
         }
     }
@@ -172,8 +261,8 @@ impl Lookups for Oracle {
 /// what a measurement of the Rust alone runs.
 pub fn judge_whole(records: &[Record], tenant: u64) -> Five {
     let mut five = Five::default();
-    for record in records {
-        five.push(&unmarked(record), tenant);
+    for event in events(records) {
+        five.push(&whole(event), tenant);
     }
     five
 }

@@ -199,7 +199,7 @@ fn spoil_state(random: &mut Random, state: &mut Vec<u64>) {
             0 => state[0] = *random.pick(&[4097, 1 << 32, 1 << 32 | capacity, u64::MAX]),
             1 => state[1] = *random.pick(&[capacity + 1, 4097, 1 << 32 | count, u64::MAX]),
             4 => {
-                state.resize(*random.pick(&[0, 1, 3, 52, 58, 60, 66, 118]), 0);
+                state.resize(*random.pick(&[0, 1, 4, 53, 59, 61, 67, 120]), 0);
                 return;
             }
             _ => {

@@ -1,6 +1,8 @@
 //! Document 01's examples E1 to E10 as traces, each with the reports it names,
-//! its three wrong judges, and four more, as traces on which they are found out.
+//! its three wrong judges, and four more, as traces on which they are found out;
+//! then those of events, event_examples.rs.
 
+use crate::event_examples::event_examples;
 use crate::generate::Trace;
 use crate::wire::Record;
 
@@ -12,22 +14,29 @@ pub struct Example {
     pub faults: Vec<(usize, u8, u64, Vec<u64>)>,
 }
 
-type Faults = Vec<(usize, u8, u64, Vec<u64>)>;
+/// The checks that are not a pass: check, kind, position, evidence.
+pub(crate) type Faults = Vec<(usize, u8, u64, Vec<u64>)>;
 
-fn example(name: &'static str, records: Vec<Record>, faults: Faults) -> Example {
+pub(crate) fn example(name: &'static str, records: Vec<Record>, faults: Faults) -> Example {
     Example { name, trace: Trace { profile: "examples", tenant: 0, records }, faults }
 }
 
-fn grant(index: u64, node: u64, first: u64, last: u64) -> Record {
+pub(crate) fn grant(index: u64, node: u64, first: u64, last: u64) -> Record {
     Record { kind: 11, numbers: [node, index, 1, first, last], ..Record::default() }
 }
 
-fn span(start: &str, end: &str) -> (Vec<u8>, Vec<u8>) {
+pub(crate) fn span(start: &str, end: &str) -> (Vec<u8>, Vec<u8>) {
     (start.as_bytes().to_vec(), end.as_bytes().to_vec())
 }
 
 /// A RangeCreated by Bootstrap.
-fn created(node: Option<u32>, range: u64, floor: u64, generation: u64, s: (&str, &str)) -> Record {
+pub(crate) fn created(
+    node: Option<u32>,
+    range: u64,
+    floor: u64,
+    generation: u64,
+    s: (&str, &str),
+) -> Record {
     Record {
         kind: 1,
         node,
@@ -39,7 +48,13 @@ fn created(node: Option<u32>, range: u64, floor: u64, generation: u64, s: (&str,
 }
 
 /// A RangeDescriptor; without a node it is a put at its index.
-fn descriptor(node: Option<u32>, range: u64, index: u64, applied: u64, generation: u64) -> Record {
+pub(crate) fn descriptor(
+    node: Option<u32>,
+    range: u64,
+    index: u64,
+    applied: u64,
+    generation: u64,
+) -> Record {
     Record {
         kind: 2,
         node,
@@ -50,7 +65,7 @@ fn descriptor(node: Option<u32>, range: u64, index: u64, applied: u64, generatio
     }
 }
 
-fn write(range: u64, index: u64, key: &str) -> Record {
+pub(crate) fn write(range: u64, index: u64, key: &str) -> Record {
     Record {
         kind: 3,
         node: Some(1),
@@ -61,11 +76,11 @@ fn write(range: u64, index: u64, key: &str) -> Record {
     }
 }
 
-fn bare(kind: u8, node: u32) -> Record {
+pub(crate) fn bare(kind: u8, node: u32) -> Record {
     Record { kind, node: Some(node), ..Record::default() }
 }
 
-fn meta(range: u64, index: u64, generation: u64, won: (&str, &str)) -> Record {
+pub(crate) fn meta(range: u64, index: u64, generation: u64, won: (&str, &str)) -> Record {
     Record {
         kind: 12,
         numbers: [range, index, 0, generation, 0],
@@ -209,6 +224,7 @@ pub fn examples() -> Vec<Example> {
         wrong_judges(),
         pieces(),
         rare(),
+        event_examples(),
     ];
     groups.into_iter().flatten().collect()
 }

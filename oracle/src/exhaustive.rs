@@ -236,7 +236,38 @@ fn meta() -> Alphabet {
     Alphabet { name: "meta", beginning, letters, length: 5 }
 }
 
+fn continuing(record: Record) -> Record {
+    Record { flag: 1, ..record }
+}
+
+fn without_node(record: Record) -> Record {
+    Record { node: None, ..record }
+}
+
+/// Applies with a node and without at two indexes, with records that continue, some
+/// of them nothing, a parent's flag, and a grant whose fault is told by its event.
+/// The beginning ends in an event that can go on at once.
+fn events() -> Alphabet {
+    let letters = vec![
+        named(1, 2, 1, Some(("b", "d"))),
+        named(1, 2, 2, Some(("c", "e"))),
+        named(1, 3, 1, Some(("b", "f"))),
+        without_node(named(1, 2, 3, Some(("", "c")))),
+        continuing(named(1, 2, 1, Some(("c", "d")))),
+        continuing(named(1, 2, 2, Some(("b", "f")))),
+        continuing(named(1, 3, 3, Some(("cc", "g")))),
+        continuing(named(1, 2, 4, None)),
+        continuing(Record { voters: vec![2, 1], ..named(1, 2, 2, None) }),
+        continuing(without_node(named(1, 2, 1, Some(("a", "f"))))),
+        valued(1, 1, 2, [2, 1, 1, 1, 0], ("f", "g")),
+        grant(1, 1, 5, 4),
+    ];
+    let begun = named(1, 2, 2, Some(("e", "f")));
+    let beginning = vec![put(1, 1, 1), put(1, 2, 2), put(1, 3, 3), begun];
+    Alphabet { name: "events", beginning, letters, length: 5 }
+}
+
 /// All alphabets.
 pub fn alphabets() -> Vec<Alphabet> {
-    vec![half(), half_one_node(), agreement(), owners(), generations(), ids(), meta()]
+    vec![half(), half_one_node(), agreement(), owners(), generations(), ids(), meta(), events()]
 }

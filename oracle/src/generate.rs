@@ -18,10 +18,20 @@ pub struct Trace {
 /// The tenants that traces are judged under.
 pub const TENANTS: [u64; 5] = [0, 1, 7, u64::MAX, 0x6162_6364_6566_6768];
 
-/// Every profile's name, the built ones last.
-pub fn names() -> Vec<&'static str> {
-    let random = PROFILES.iter().map(|profile| profile.name);
+/// The profiles whose MetaApplied events have several records. The others have
+/// none, and draw what they drew before there were any.
+pub const WITH_EVENTS: [&str; 4] = ["events", "mixed-events", "cluster-events", "noisy-events"];
+
+/// The other profiles' names, the built ones last.
+pub fn without_events() -> Vec<&'static str> {
+    let random = PROFILES.iter().filter(|profile| profile.events == 0);
+    let random = random.map(|profile| profile.name);
     random.chain(["cluster", "noisy", "splits", "extremes"]).collect()
+}
+
+/// Every profile's name.
+pub fn names() -> Vec<&'static str> {
+    without_events().into_iter().chain(WITH_EVENTS).collect()
 }
 
 /// The trace of a profile and a seed, with `least` to `most` records.
@@ -31,10 +41,11 @@ pub fn trace(name: &str, seed: u64, least: u64, most: u64) -> Trace {
     let tenant = if random.percent(40) { 0 } else { *random.pick(&TENANTS) };
     let length = random.from_to(least, most) as usize;
     let records = match name {
-        "cluster" => cluster::story(&mut random, length, 0),
-        "noisy" => {
+        "cluster" => cluster::story(&mut random, length, 0, 1),
+        "cluster-events" => cluster::story(&mut random, length, 0, 8),
+        "noisy" | "noisy-events" => {
             let noise = random.from_to(1, 6);
-            cluster::story(&mut random, length, noise)
+            cluster::story(&mut random, length, noise, if name == "noisy" { 1 } else { 8 })
         }
         "splits" => cluster::splits(&mut random, length),
         "extremes" => extremes(&mut random, tenant, length),
@@ -90,9 +101,56 @@ impl<'a> Draw<'a> {
         while self.records.len() < length {
             let told = self.records.len() as u64;
             let record = if told < self.profile.roots { self.root(told) } else { self.record() };
+            let begins = record.kind == 12 && self.profile.events > 0;
             self.records.push(record);
+            if begins && self.random.percent(self.profile.events) {
+                self.go_on();
+            }
         }
+        self.records.truncate(length);
         self.records
+    }
+
+    /// One to seven more records of the last one's event.
+    fn go_on(&mut self) {
+        let mut last = self.records.last().expect("a record").clone();
+        for _ in 0..self.random.weighted(&[0, 5, 4, 3, 2, 1, 1, 1]) {
+            if self.random.percent(self.profile.torn) {
+                self.tear(&last);
+            }
+            last = self.next_of(&last);
+            self.records.push(last.clone());
+        }
+    }
+
+    /// A record that continues the event: another won span of the descriptor before
+    /// it, or another descriptor. Some begin an event beside it, with its numbers.
+    fn next_of(&mut self, last: &Record) -> Record {
+        let mut next = last.clone();
+        if self.random.percent(40) {
+            next.spans.truncate(1);
+            next.spans.push(self.keys.span(&mut self.random, self.profile.tenant));
+        } else {
+            self.meta(&mut next);
+            next.numbers[1] = last.numbers[1];
+        }
+        next.flag = u8::from(!self.random.percent(8));
+        next
+    }
+
+    /// Something between two records of an event: one that continues nothing, since
+    /// its node, its mark or its index is another, which leaves the event whole; or
+    /// a record of any kind, after which nothing continues it.
+    fn tear(&mut self, last: &Record) {
+        let mut torn = Record { flag: 1, ..last.clone() };
+        match self.random.below(5) {
+            0 => torn.node = Some(last.node.unwrap_or(0) ^ 1 << self.random.below(32)),
+            1 => torn.node = if last.node.is_some() { None } else { Some(0) },
+            2 => torn.numbers[1] ^= 1 << self.random.below(64),
+            3 => torn.numbers[1] = self.index(),
+            _ => torn = self.fresh(),
+        }
+        self.records.push(torn);
     }
 
     /// A value to begin with: the ranges in turn, the index rising.
@@ -274,7 +332,8 @@ impl<'a> Draw<'a> {
         record.numbers = [node, index, run, first, last];
     }
 
-    /// Mostly a descriptor already put, so that the later kinds are reached.
+    /// Mostly a descriptor already put, so that the later kinds are reached. The
+    /// node and the flag are left.
     fn meta(&mut self, record: &mut Record) {
         let puts = self.records.iter().filter(|r| matches!(r.kind, 1 | 2)).cloned();
         let puts: Vec<Record> = puts.collect();

@@ -1,6 +1,7 @@
 //! The oracle library: the published Rust driven on records of document 01, a
 //! plain model of document 01, the trace generator and what compares them.
 
+pub mod beginnings;
 pub mod cli;
 pub mod cluster;
 pub mod compare;
@@ -9,6 +10,7 @@ pub mod damage;
 pub mod decode;
 pub mod driver;
 pub mod entries;
+pub mod event_examples;
 pub mod examples;
 pub mod exhaustive;
 pub mod generate;

@@ -1,7 +1,8 @@
-//! Document 01's refusals 5 to 8 and the order of all, asked of the model. The
-//! Rust has no capacity and no buffers, so there is nothing to compare them with.
+//! Document 01's refusals 5 to 8, document 02's 11, and the order of all, asked of
+//! the model. The Rust has no capacity and no buffers, so there is nothing to
+//! compare them with.
 
-use crate::damage::good;
+use crate::damage::{continuing, good};
 use crate::lookups::Lookups;
 use crate::model::judge::Judge;
 
@@ -20,6 +21,7 @@ pub fn check() -> usize {
     let mut asked = Asked(0);
     openings(&mut asked);
     full_judges(&mut asked);
+    continued(&mut asked);
     lent_lengths(&mut asked);
     lists(&mut asked);
     asked.0
@@ -59,6 +61,34 @@ fn full_judges(asked: &mut Asked) {
         let same = *judge.reports() == before && judge.count() == capacity;
         asked.same("a refusal changes nothing", u8::from(same), 1);
     }
+}
+
+/// A record that continues nothing: after 4, before 6, and by the last record taken
+/// alone. One that continues is as any other.
+fn continued(asked: &mut Asked) {
+    let (first, next) = (good(12, true).encode(), continuing(true).encode());
+    let mut judge = Judge::open(736, 64, 0).1;
+    asked.same("no record taken", judge.push(&next), 11);
+    asked.same("begins", judge.push(&first), 0);
+    for (place, value, refusal) in [(1, 0, 4), (4, 0, 11), (16, 0, 11), (8, 0, 0)] {
+        let mut other = next;
+        other[place] = value;
+        asked.same("another mark, node, index, range", judge.clone().push(&other), refusal);
+    }
+    let mut nodeless = next;
+    nodeless[1] = 0;
+    nodeless[4..8].fill(0);
+    asked.same("no node", judge.push(&nodeless), 11);
+    asked.same("continues", judge.push(&next), 0);
+    asked.same("continues, full", judge.push(&next), 6);
+    asked.same("nothing to continue, full", judge.push(&nodeless), 11);
+    let mut damaged = nodeless;
+    damaged[50] = 1;
+    asked.same("damaged, nothing to continue, full", judge.push(&damaged), 4);
+    let mut flagged = next;
+    flagged[3] = 2;
+    asked.same("another flag", judge.push(&flagged), 3);
+    asked.same("two records", judge.count() as u8, 2);
 }
 
 /// Refusal 5 comes before all others.

@@ -10,6 +10,7 @@ pub fn minimise(records: &[Record], holds: &mut dyn FnMut(&[Record]) -> bool) ->
         let before = best.clone();
         drop_records(&mut best, holds);
         shrink_fields(&mut best, holds);
+        shrink_events(&mut best, holds);
         if best == before {
             return best;
         }
@@ -49,6 +50,36 @@ fn shrink_fields(best: &mut Vec<Record>, holds: &mut dyn FnMut(&[Record]) -> boo
     }
 }
 
+/// Tries a smaller node and index in all records of an event at once: in one alone
+/// it would part the event.
+fn shrink_events(best: &mut Vec<Record>, holds: &mut dyn FnMut(&[Record]) -> bool) {
+    for at in 0..best.len() {
+        let more = best[at + 1..].iter().take_while(|record| record.continues()).count();
+        if more == 0 {
+            continue;
+        }
+        let mut tries = smaller_applies(&best[at]);
+        while let Some((node, index)) = tries.pop() {
+            let mut changed = best.clone();
+            for record in &mut changed[at..=at + more] {
+                record.node = node;
+                record.numbers[1] = index;
+            }
+            if changed != *best && holds(&changed) {
+                *best = changed;
+                tries = smaller_applies(&best[at]);
+            }
+        }
+    }
+}
+
+/// A smaller node or a smaller index of a MetaApplied.
+fn smaller_applies(record: &Record) -> Vec<(Option<u32>, u64)> {
+    let (node, index) = (record.node, record.numbers[1]);
+    let nodes = [None, node.map(|node| node.min(1))].map(|node| (node, index));
+    nodes.into_iter().chain(less_than(index).into_iter().map(|less| (node, less))).collect()
+}
+
 /// Smaller numbers, few enough that a great one comes down in a few steps.
 fn less_than(number: u64) -> Vec<u64> {
     let near = (number <= 16).then(|| number.saturating_sub(1));
@@ -69,6 +100,8 @@ fn smaller(record: &Record) -> Vec<Record> {
     add(&|r| r.node = r.node.map(|node| node.saturating_sub(1).max(1)));
     add(&|r| r.node = None);
     add(&|r| r.sub = form_of(r.kind).expect("a kind").sub.0);
+    // A MetaApplied that begins an event; a parent is left.
+    add(&|r| r.flag = if r.kind == 12 { 0 } else { r.flag });
     for place in 0..5 {
         for less in less_than(record.numbers[place]) {
             add(&|r| r.numbers[place] = less);

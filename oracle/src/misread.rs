@@ -1,7 +1,7 @@
-//! For each other reading of document 01, the smallest trace found on which the
+//! For each other reading of the documents, the smallest trace found on which the
 //! Rust speaks against it.
 
-use crate::compare::{Asking, Comparer};
+use crate::compare::{Asking, Comparer, taken};
 use crate::generate::{Trace, names, trace};
 use crate::minimise::minimise;
 use crate::model::readings::{Reading, take};
@@ -11,6 +11,17 @@ use crate::model::readings::{Reading, take};
 pub fn smallest(comparer: &mut Comparer, found: &Trace, asking: Asking) -> (Trace, String) {
     let tenant = found.tenant;
     let mut holds = |records: &[_]| comparer.run(tenant, records, asking).is_err();
+    let records = minimise(&found.records, &mut holds);
+    let words = comparer.run(tenant, &records, asking).unwrap_err();
+    (Trace { profile: found.profile, tenant, records }, words)
+}
+
+/// The same with no record that is refused.
+fn smallest_taken(comparer: &mut Comparer, found: &Trace) -> (Trace, String) {
+    let (tenant, asking) = (found.tenant, Asking::AtTheEnd);
+    let mut holds = |records: &[_]| {
+        taken(records).len() == records.len() && comparer.run(tenant, records, asking).is_err()
+    };
     let records = minimise(&found.records, &mut holds);
     let words = comparer.run(tenant, &records, asking).unwrap_err();
     (Trace { profile: found.profile, tenant, records }, words)
@@ -26,9 +37,10 @@ const LONGER: [&str; 3] = ["half", "half-restated", "splits"];
 fn in_profile(comparer: &mut Comparer, profile: &str, length: (u64, u64)) -> Vec<(Trace, String)> {
     let mut out = Vec::new();
     for number in 0..TRIED {
-        let next = trace(profile, number, length.0, length.1);
+        let mut next = trace(profile, number, length.0, length.1);
+        next.records = taken(&next.records);
         if comparer.run(next.tenant, &next.records, Asking::AtTheEnd).is_err() {
-            out.push(smallest(comparer, &next, Asking::AtTheEnd));
+            out.push(smallest_taken(comparer, &next));
         }
         if out.len() == SHRUNK {
             break;

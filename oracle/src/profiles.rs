@@ -23,6 +23,10 @@ pub struct Profile {
     pub roots: u64,
     /// Effects of kind 3: weights of sub-codes 1 to 7.
     pub effects: [u64; 7],
+    /// In a hundred: MetaApplied events of several records, and among their records
+    /// those before which something stands that continues nothing or parts them.
+    pub events: u64,
+    pub torn: u64,
 }
 
 const EVEN: [u64; 7] = [4, 1, 1, 4, 1, 1, 1];
@@ -42,11 +46,13 @@ const BASE: Profile = Profile {
     repeats: 15,
     roots: 0,
     effects: EVEN,
+    events: 0,
+    torn: 0,
 };
 
-/// The random profiles. `cluster`, `noisy`, `splits` and `extremes` are built
-/// otherwise: see generate.rs.
-pub const PROFILES: [Profile; 11] = [
+/// The random profiles. `cluster`, `noisy`, `splits`, `extremes` and two with
+/// events are built otherwise: see generate.rs.
+pub const PROFILES: [Profile; 13] = [
     BASE,
     Profile { name: "wild", sound: 0, repeats: 0, unmarked: 15, tenant: 25, ..BASE },
     Profile {
@@ -112,6 +118,24 @@ pub const PROFILES: [Profile; 11] = [
         ranges: 2,
         sound: 98,
         roots: 4,
+        ..BASE
+    },
+    Profile {
+        name: "events",
+        kinds: [2, 1, 1, 0, 0, 0, 0, 0, 0, 0, 1, 14],
+        ranges: 2,
+        sound: 98,
+        roots: 4,
+        unmarked: 12,
+        events: 70,
+        torn: 6,
+        ..BASE
+    },
+    Profile {
+        name: "mixed-events",
+        kinds: [6, 6, 5, 2, 2, 1, 3, 2, 1, 1, 2, 8],
+        events: 60,
+        torn: 12,
         ..BASE
     },
 ];

@@ -15,15 +15,15 @@ pub const SIZE: usize = 4 * PLACES * RECORDS;
 /// The greatest count.
 pub const MOST: u64 = 4_294_967_295;
 
-/// The words of a judge: capacity, count, tenant, and seven for each check, its kind first.
-pub const STATE: usize = 3 + 7 * CHECKS.len();
+/// The words of a judge: capacity, count, events, tenant, and seven for each check, its kind first.
+pub const STATE: usize = 4 + 7 * CHECKS.len();
 
 /// The greatest capacity.
 const CAPACITY: u64 = 4096;
 
 /// The word of a check's kind.
 pub fn kind_word(check: usize) -> usize {
-    3 + 7 * check
+    4 + 7 * check
 }
 
 /// What is counted of a campaign.

@@ -106,6 +106,9 @@ pub fn readable(r: &Record) -> String {
     }];
     words.push(KINDS[usize::from(r.kind) - 1].to_owned());
     words.push(sub_word(r).to_owned());
+    if r.continues() {
+        words.push("continues:".to_owned());
+    }
     for (name, number) in number_names(r.kind).iter().zip(r.numbers) {
         if !name.is_empty() && (*name != "parent" || r.flag == 1) {
             words.push(format!("{name} {number}"));

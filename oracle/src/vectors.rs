@@ -1,8 +1,9 @@
 //! The stored vectors: a fixed sample of traces with the oracle's answers, in
 //! the format of vectors/FORMAT.md.
 
+use crate::compare::taken;
 use crate::driver::Oracle;
-use crate::generate::{Trace, names, trace};
+use crate::generate::{Trace, trace};
 use crate::lookups::{Question, questions};
 use crate::random::Random;
 use crate::report::{KINDS, Report, Reports};
@@ -70,7 +71,7 @@ pub fn trace_bytes(trace: &Trace, random: &mut Random) -> Vec<u8> {
     let mut oracle = Oracle::open(trace.tenant);
     for record in &trace.records {
         let before = *oracle.reports();
-        oracle.push(record);
+        assert_eq!(oracle.push(record), 0, "a stored record has no refusal");
         out.extend(change_bytes(&before, oracle.reports()));
     }
     let kept = kept_questions(trace, random);
@@ -83,7 +84,9 @@ pub fn trace_bytes(trace: &Trace, random: &mut Random) -> Vec<u8> {
 
 fn final_reports(trace: &Trace) -> Reports {
     let mut oracle = Oracle::open(trace.tenant);
-    trace.records.iter().for_each(|record| oracle.push(record));
+    for record in &trace.records {
+        oracle.push(record);
+    }
     *oracle.reports()
 }
 
@@ -100,15 +103,29 @@ fn complete(tally: &Tally) -> bool {
     each.into_iter().all(|(seen, kinds)| (1..=kinds).all(|k| seen[usize::from(k)] >= LEAST))
 }
 
-/// The sample: `drawn` traces of every profile as they come, then traces that
-/// have a kind which is still rare.
-pub fn sample(seed: u64, drawn: u64) -> (Vec<Trace>, Tally) {
-    let (mut random, names) = (Random::new(seed), names());
+/// A drawn trace, without the records that would be refused.
+fn stored(name: &str, seed: u64) -> Trace {
+    let mut drawn = trace(name, seed, 5, 14);
+    drawn.records = taken(&drawn.records);
+    drawn
+}
+
+/// `drawn` traces of each of these profiles as they come.
+pub fn as_drawn(seed: u64, names: &[&str], drawn: u64) -> Vec<Trace> {
+    let mut random = Random::new(seed);
+    let each = names.iter().flat_map(|name| (0..drawn).map(move |_| name));
+    each.map(|name| stored(name, random.next())).collect()
+}
+
+/// The sample: `drawn` traces of each of these profiles as they come, then traces
+/// that have a kind which is still rare.
+pub fn sample(seed: u64, names: &[&str], drawn: u64) -> (Vec<Trace>, Tally) {
+    let mut random = Random::new(seed);
     let (mut out, mut tally) = (Vec::new(), Tally::default());
     let mut turn = 0;
     while turn < drawn * names.len() as u64 || !complete(&tally) {
         let name = names[turn as usize % names.len()];
-        let next = trace(name, random.next(), 5, 14);
+        let next = stored(name, random.next());
         let reports = final_reports(&next);
         if turn < drawn * names.len() as u64 || rare(&tally, &reports) {
             let counts = tally.iter_mut().zip(&reports);

@@ -61,7 +61,7 @@ pub const FORMS: [Form; 12] = [
     form((0, 0), (0, 0), [Y, N, N, N, N]),
     form((0, 0), (0, 0), [N, N, N, N, N]),
     form((0, 0), (0, 0), [Y, Y, Y, Y, Y]),
-    with_voters(form((0, 0), (1, 2), [Y, Y, N, Y, N]), 0),
+    with_voters(form((0, 0), (1, 2), [Y, Y, N, Y, N]), 1),
 ];
 
 /// The form of a kind, none for a number that is no kind.
@@ -83,6 +83,12 @@ fn number_at(bytes: &[u8], at: usize) -> u64 {
 }
 
 impl Record {
+    /// Whether it goes on with the event of the record before it: a MetaApplied
+    /// with the flag. A RangeCreated's flag is a parent.
+    pub fn continues(&self) -> bool {
+        self.kind == 12 && self.flag == 1
+    }
+
     /// The record's bytes.
     pub fn encode(&self) -> [u8; RECORD] {
         let mut out = [0; RECORD];

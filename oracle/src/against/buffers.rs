@@ -4,7 +4,7 @@
 //! What a preview only reads is lent as if it were written: else the compiler might take it that it
 //! is not, and a comparison would see nothing.
 
-use oracle::preview::{REPORTS, TICKET};
+use oracle::preview::{Lent, REPORTS, TICKET};
 
 unsafe extern "C" {
     fn petalchurn_push(
@@ -110,9 +110,9 @@ impl Buffers {
         refusal
     }
 
-    /// The lengths of log and work area.
-    pub fn lengths(&self) -> (usize, usize) {
-        (self.log.len(), self.work.len())
+    /// What is lent beside the state: the log, and the length of the work area.
+    pub fn lent(&self) -> Lent<'_> {
+        (&self.log, self.work.len())
     }
 
     /// Which of the three is not as the other's, in words.

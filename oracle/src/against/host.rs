@@ -6,7 +6,7 @@ use oracle::report::{Report, Reports};
 
 use crate::buffers::Buffers;
 
-const STATE: usize = 59;
+const STATE: usize = 60;
 const WORDS: usize = 32;
 const RECORD: usize = 368;
 
@@ -109,7 +109,7 @@ pub struct Host {
 }
 
 /// What stands in the buffers before an opening: nothing may depend on it.
-const BEFORE: u8 = 0xa5;
+pub const BEFORE: u8 = 0xa5;
 
 impl Host {
     pub fn open(tenant: u64, capacity: usize) -> Host {
@@ -118,7 +118,8 @@ impl Host {
         host
     }
 
-    /// The refusal of an opening over so many bytes and words, and what it gives.
+    /// The refusal of an opening over so many bytes and words, and what it gives: a judge that has
+    /// taken nothing and passes, of capacity 0 where it is refused.
     pub fn lent(tenant: u64, bytes: usize, words: usize) -> (u64, Host) {
         let mut buffers = Buffers {
             log: vec![BEFORE; bytes],
@@ -136,6 +137,9 @@ impl Host {
                 STATE,
             )
         };
+        let capacity = if refusal == 0 { bytes / RECORD } else { 0 };
+        let header = [capacity as u64, 0, 0, tenant];
+        assert_eq!(buffers.state, [&header[..], &[0; 56]].concat(), "the judge of an opening");
         (refusal, Host { buffers, reports: Reports::default() })
     }
 

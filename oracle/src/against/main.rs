@@ -9,9 +9,10 @@
 //!                                         previews of records that are not taken, at every point
 //!   against form [SEED]                   pushes, previews and commits with things wrong
 //!   against tally [ENTRIES [SEED]]        a campaign, and entries of every sort into a tally
+//!   against vectors DIR                   the stored vectors, form.bin and traces.bin
 //!
-//! All reports after each record, every look-up, and the whole trace in one
-//! call; then the judge is entered into its row's tally. Every record is
+//! All reports after each record, so with an event cut at each of its records,
+//! every look-up, and the whole trace in one call; then the judge is entered into its row's tally. Every record is
 //! previewed before it is taken, another one beside it, and the taking is by
 //! turns a push and a commit: console.rs. A disagreement is shrunk, printed, and
 //! ends the run with status 1.
@@ -23,17 +24,20 @@ mod host;
 mod previews;
 mod tallies;
 
+use std::path::Path;
 use std::process::exit;
 use std::time::Instant;
 
-use console::Console;
+use console::{Console, Drew};
 use host::{Host, report_in, whole};
-use oracle::compare::{Asking, Comparer, numbered};
+use oracle::compare::{Asking, Comparer, numbered, taken};
 use oracle::counts::{Counts, header};
+use oracle::driver::Oracle;
 use oracle::exhaustive::alphabets;
 use oracle::generate::{Trace, names, trace};
 use oracle::minimise::minimise;
 use oracle::report::Reports;
+use oracle::stored::{check_form, check_traces};
 use oracle::text::{readable, record_line};
 use oracle::wire::Record;
 use previews::Neighbours;
@@ -46,7 +50,7 @@ fn capacity(records: usize, number: u64) -> usize {
 }
 
 /// What both sides came to: the reports, the judge, and its previews by refusal.
-type Came = (Reports, Host, [u64; 7]);
+type Came = (Reports, Host, Drew);
 
 /// The oracle against the judge, record by record and at once.
 fn both(
@@ -56,20 +60,42 @@ fn both(
     asking: Asking,
     number: u64,
 ) -> Result<Came, String> {
-    let room = capacity(records.len(), number);
+    let sound = taken(records);
+    let room = capacity(sound.len(), number);
     let others = Neighbours { records, number };
     let mut console = Console::open(tenant, room, number / 3, others);
     let reports = comparer.against(&mut console, tenant, records, asking)?;
     let (judge, previews) = console.finish()?;
-    at_once(tenant, room, records, &reports)?;
+    at_once(tenant, room, &sound, None, &reports)?;
+    if sound.len() < records.len() {
+        up_to_refusal(tenant, room, records)?;
+    }
     Ok((reports, judge, previews))
 }
 
-/// The whole trace in one call gives the same reports.
-fn at_once(tenant: u64, room: usize, records: &[Record], reports: &Reports) -> Result<(), String> {
+/// A whole trace with a record that is refused: those before it are taken, and no more.
+fn up_to_refusal(tenant: u64, room: usize, records: &[Record]) -> Result<(), String> {
+    let mut oracle = Oracle::open(tenant);
+    let place = records.iter().position(|record| oracle.push(record) != 0).expect("a refusal");
+    at_once(tenant, room, records, Some(place), oracle.reports())
+}
+
+/// The whole trace in one call gives the same reports; where a record is refused by 11, those of the
+/// records before it. What it counts are records.
+fn at_once(
+    tenant: u64,
+    room: usize,
+    records: &[Record],
+    refused: Option<usize>,
+    reports: &Reports,
+) -> Result<(), String> {
     let bytes: Vec<u8> = records.iter().flat_map(|record| record.encode()).collect();
     let (refusal, words) = whole(tenant, room, &bytes);
-    if (refusal, words[0], words[1]) != (0, records.len() as u64, 0) {
+    let expected = match refused {
+        None => (0, records.len() as u64, 0),
+        Some(place) => (11, place as u64, place as u64 + 1),
+    };
+    if (refusal, words[0], words[1]) != expected {
         return Err(format!("at once: refused {refusal}, {} taken at {}", words[0], words[1]));
     }
     for (check, report) in reports.iter().enumerate() {
@@ -100,14 +126,14 @@ fn disagree(trace: &Trace, number: u64, first: &str, run: Run) -> ! {
 struct Row {
     counts: Counts,
     campaign: Campaign,
-    previews: [u64; 7],
+    previews: Drew,
 }
 
 /// All rows together.
 #[derive(Default)]
 struct All {
     counts: Counts,
-    previews: [u64; 7],
+    previews: Drew,
 }
 
 impl All {
@@ -136,7 +162,7 @@ fn count(comparer: &mut Comparer, row: &mut Row, trace: &Trace, number: u64) {
 
 /// The judge into its row's tally. A difference is not shrunk: the traces before it count too.
 fn enter(campaign: &mut Campaign, trace: &Trace, reports: &Reports, judge: &Host) {
-    if let Err(words) = campaign.enter(judge, reports, trace.records.len() as u64) {
+    if let Err(words) = campaign.enter(judge, reports, taken(&trace.records).len() as u64) {
         println!("tally of {}: {words}\n{reports:?}", trace.profile);
         exit(1)
     }
@@ -145,8 +171,8 @@ fn enter(campaign: &mut Campaign, trace: &Trace, reports: &Reports, judge: &Host
 /// The last lines of a table.
 fn end(all: &All, comparer: &Comparer) {
     println!("{}", all.counts.row("all"));
-    println!("\nlook-ups compared: {}", comparer.asked);
-    println!("previews, refusals 0 to 6: {:?}", all.previews);
+    println!("\n{}", comparer.counted());
+    println!("previews, refusals 0 to 11: {:?}", all.previews);
     println!("every judge entered into its row's tally: all bytes as counted");
 }
 
@@ -199,6 +225,31 @@ fn exhaustive() {
     end(&all, &comparer);
 }
 
+/// The refusal that the form of bytes draws in a judge that has taken nothing. 11 is none of the
+/// form's, and comes after those.
+fn form_of(bytes: &[u8]) -> u8 {
+    match Host::open(0, 1).buffers.push(bytes) {
+        11 => 0,
+        refusal => refusal as u8,
+    }
+}
+
+/// The stored vectors through the library.
+fn stored(dir: &str) {
+    let file = |name: &str| std::fs::read(Path::new(dir).join(name)).expect("a stored file");
+    let form = check_form(&file("form.bin"), form_of);
+    let traces = check_traces(&file("traces.bin"), |tenant| Host::open(tenant, 14));
+    for (name, found) in [("form", form), ("traces", traces)] {
+        match found {
+            Ok(count) => println!("{name}: all {count} as stored"),
+            Err(words) => {
+                println!("{name}: {words}");
+                exit(1)
+            }
+        }
+    }
+}
+
 fn main() {
     let args: Vec<String> = std::env::args().skip(1).collect();
     let number =
@@ -209,6 +260,7 @@ fn main() {
         Some("form") => calls::compare(number(1, 1)),
         Some("previews") => previews::compare(number(1, 4_000), number(2, 1)),
         Some("tally") => tallies::compare(number(1, 1_000_000), number(2, 1)),
+        Some("vectors") => stored(args.get(1).expect("a folder")),
         Some("tails") => profiles(number(1, 4_000), |name, k| (tails(numbered(name, 1, k)), k)),
         // Not multiples of four: look-ups at the end only.
         Some("long") => profiles(number(1, 40), |name, k| (trace(name, k, 200, 512), 4 * k + 1)),

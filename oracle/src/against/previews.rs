@@ -4,7 +4,7 @@
 
 use std::mem;
 
-use oracle::compare::{Asking, Comparer, numbered};
+use oracle::compare::{Asking, Comparer, numbered, taken};
 use oracle::counts::{Counts, header};
 use oracle::damage;
 use oracle::decode::Marks;
@@ -15,7 +15,7 @@ use oracle::random::Random;
 use oracle::report::Reports;
 use oracle::wire::Record;
 
-use crate::console::{Console, Other, Others};
+use crate::console::{Console, Drew, Other, Others};
 use crate::{capacity, disagree};
 
 /// Draws for a point of a trace: the same again where it is shrunk.
@@ -54,19 +54,24 @@ impl Others for Neighbours<'_> {
 struct Drawn<'a> {
     tenant: u64,
     records: &'a [Record],
+    taken: Vec<Record>,
     elsewhere: &'a [Record],
     number: u64,
     marks: &'a mut Marks,
 }
 
 impl Drawn<'_> {
-    /// The words of the Rust's reports after so many records of the trace, and then this one.
-    fn fresh(&mut self, count: usize, record: &Record) -> Vec<u64> {
+    /// The words of the Rust's reports after so many records taken of the trace, and then this one;
+    /// none where it would be refused.
+    fn fresh(&mut self, count: usize, record: &Record) -> Option<Vec<u64>> {
         let mut oracle = Oracle::with_marks(self.tenant, mem::take(self.marks));
-        self.records[..count].iter().chain([record]).for_each(|record| oracle.push(record));
+        for record in &self.taken[..count] {
+            oracle.push(record);
+        }
+        let refusal = oracle.push(record);
         let reports = words(oracle.reports());
         *self.marks = oracle.into_marks();
-        reports
+        (refusal == 0).then_some(reports)
     }
 }
 
@@ -78,7 +83,7 @@ impl Others for Drawn<'_> {
         let mut draw = || {
             let record = *random.pick(&pool);
             let bytes = bytes_of(&mut random, record, 20);
-            let reports = Record::decode(&bytes).ok().map(|record| self.fresh(count, &record));
+            let reports = Record::decode(&bytes).ok().and_then(|record| self.fresh(count, &record));
             Other { bytes, reports }
         };
         (0..many).map(|_| draw()).collect()
@@ -90,7 +95,7 @@ impl Others for Drawn<'_> {
 struct Kept {
     comparer: Comparer,
     marks: Marks,
-    previews: [u64; 7],
+    previews: Drew,
 }
 
 /// One trace with previews of records that are not taken at every point of it.
@@ -102,7 +107,7 @@ fn run(
     elsewhere: &[Record],
 ) -> Result<Reports, String> {
     let (tenant, marks) = (trace.tenant, &mut kept.marks);
-    let drawn = Drawn { tenant, records, elsewhere, number, marks };
+    let drawn = Drawn { tenant, records, taken: taken(records), elsewhere, number, marks };
     let mut console = Console::open(tenant, capacity(records.len(), number), number / 3, drawn);
     let asking = if number % 4 == 0 { Asking::EachRecord } else { Asking::AtTheEnd };
     let reports = kept.comparer.against(&mut console, tenant, records, asking)?;
@@ -112,7 +117,7 @@ fn run(
 }
 
 /// Counts of previews by refusal, added up.
-pub fn add(all: &mut [u64; 7], more: [u64; 7]) {
+pub fn add(all: &mut Drew, more: Drew) {
     all.iter_mut().zip(more).for_each(|(all, more)| *all += more);
 }
 
@@ -136,6 +141,6 @@ pub fn compare(each: u64, seed: u64) {
         all.join(&row);
     }
     println!("{}", all.row("all"));
-    println!("\nlook-ups compared: {}", kept.comparer.asked);
-    println!("previews, refusals 0 to 6: {:?}; seed {seed}", kept.previews);
+    println!("\n{}", kept.comparer.counted());
+    println!("previews, refusals 0 to 11: {:?}; seed {seed}", kept.previews);
 }

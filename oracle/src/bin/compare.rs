@@ -4,9 +4,11 @@
 //!   compare long [TRACES_PER_PROFILE]     the same with 200 to 512 records
 //!   compare exhaustive                    all short traces over small alphabets
 //!   compare form [SEED]                   the two form checks on damaged copies
-//!   compare examples                      document 01's examples
-//!   compare limits                        the model's refusals 5 to 8 and their order
-//!   compare readings                      other readings of document 01, each with
+//!   compare examples                      the documents' examples
+//!   compare limits                        the model's refusals 5 to 8 and 11, and their order
+//!   compare beginnings [TRACES_PER_PROFILE]
+//!                                         the oracle's reports against fresh runs of it
+//!   compare readings                      other readings of the documents, each with
 //!                                         the smallest trace that speaks against it
 //!
 //! Prints counts by profile and by check and kind; a disagreement is shrunk to
@@ -15,6 +17,7 @@
 use std::process::exit;
 use std::time::Instant;
 
+use oracle::beginnings;
 use oracle::compare::{Asking, Comparer, numbered};
 use oracle::counts::{Counts, header};
 use oracle::damage::every_case;
@@ -67,7 +70,7 @@ fn long(each: u64) {
         }
         println!("{}", counts.row(profile));
     }
-    println!("\nlook-ups compared: {}", comparer.asked);
+    println!("\n{}", comparer.counted());
 }
 
 /// One trace through both judges, counted; a disagreement ends the run.
@@ -92,7 +95,7 @@ fn profiles(each: u64, seed: u64) {
         all.join(&counts);
     }
     println!("{}", all.row("all"));
-    println!("\nlook-ups compared: {}; seed {seed}", comparer.asked);
+    println!("\n{}; seed {seed}", comparer.counted());
 }
 
 fn exhaustive() {
@@ -111,7 +114,7 @@ fn exhaustive() {
         all.join(&counts);
     }
     println!("{}", all.row("all"));
-    println!("\nlook-ups compared: {}", comparer.asked);
+    println!("\n{}", comparer.counted());
 }
 
 /// The driver's reader and the model's form check on every damaged copy.
@@ -138,10 +141,21 @@ fn told_examples() {
         }
         let found = comparer.run(*tenant, records, Asking::EachRecord);
         if found != Ok(expected) {
-            println!("{}: {found:?}, where document 01 says\n{}", example.name, sheet(&expected));
+            println!("{}: {found:?}, where the documents say\n{}", example.name, sheet(&expected));
             exit(1)
         }
-        println!("{}: as document 01 says", example.name);
+        println!("{}: as the documents say", example.name);
+    }
+}
+
+/// The driver against fresh runs of the Rust over every beginning.
+fn by_beginnings(each: u64) {
+    match beginnings::check(each) {
+        Ok(records) => println!("after each of {records} records the reports by beginnings"),
+        Err(words) => {
+            println!("{words}");
+            exit(1)
+        }
     }
 }
 
@@ -155,7 +169,8 @@ fn main() {
         Some("form") => form(number(1, 1)),
         Some("examples") => told_examples(),
         Some("readings") => readings(),
-        Some("limits") => println!("{} limits as document 01 says", limits::check()),
+        Some("limits") => println!("{} limits as the documents say", limits::check()),
+        Some("beginnings") => by_beginnings(number(1, 500)),
         Some("long") => long(number(1, 40)),
         _ => profiles(number(0, 20_000), number(1, 1)),
     }

@@ -6,5 +6,5 @@ use oracle::driver::Oracle;
 
 fn main() {
     let wishes = wishes();
-    run(&mut Oracle::open(wishes.tenant), &wishes);
+    run(&mut Oracle::with_room(wishes.tenant, wishes.capacity), &wishes);
 }

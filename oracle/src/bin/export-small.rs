@@ -14,7 +14,7 @@
 //!   lookup: QUESTION = [ANSWER]   (record numbers, 0 for none)
 //!   end
 
-use oracle::compare::Comparer;
+use oracle::compare::{Comparer, taken};
 use oracle::driver::Oracle;
 use oracle::examples::examples;
 use oracle::generate::{Trace, names, trace};
@@ -51,7 +51,9 @@ impl Seen {
 
 fn judged(trace: &Trace) -> Oracle {
     let mut oracle = Oracle::open(trace.tenant);
-    trace.records.iter().for_each(|record| oracle.push(record));
+    for record in &trace.records {
+        oracle.push(record);
+    }
     oracle
 }
 
@@ -60,7 +62,7 @@ fn print(number: u64, trace: &Trace) {
     println!("trace {number} profile={profile} tenant={tenant} records={}", records.len());
     let mut oracle = Oracle::open(*tenant);
     for (place, record) in records.iter().enumerate() {
-        oracle.push(record);
+        assert_eq!(oracle.push(record), 0, "a record that is taken");
         println!("record {}: {}", place + 1, record_line(record));
         println!("reports {}: {}", place + 1, reports_line(oracle.reports()));
     }
@@ -89,7 +91,8 @@ fn drawn(traces: u64, seed: u64, least: u64) {
     let unselected = traces * 9 / 10;
     while number < traces || seen.lacks(least) {
         let name = names[random.below(names.len() as u64) as usize];
-        let drawn = trace(name, random.next(), 5, 14);
+        let mut drawn = trace(name, random.next(), 5, 14);
+        drawn.records = taken(&drawn.records);
         let oracle = judged(&drawn);
         let wanted = seen.wants(&oracle, least) || !seen.lacks(least);
         if number < unselected || wanted {

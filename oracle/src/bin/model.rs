@@ -2,9 +2,12 @@
 //! the options and the output of `driver`.
 
 use oracle::cli::{run, wishes};
-use oracle::model::judge::Judge;
+use oracle::model::judge::{Judge, MOST};
 
 fn main() {
     let wishes = wishes();
-    run(&mut Judge::roomy(wishes.tenant), &wishes);
+    let room = usize::try_from(wishes.capacity).map_or(MOST, |room| room.min(MOST));
+    let mut judge = Judge::roomy(wishes.tenant);
+    judge.capacity = room;
+    run(&mut judge, &wishes);
 }

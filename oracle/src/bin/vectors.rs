@@ -11,6 +11,7 @@ use oracle::compare::Comparer;
 use oracle::damage::{form_file, stored_cases};
 use oracle::driver::Oracle;
 use oracle::examples::examples;
+use oracle::generate::{WITH_EVENTS, without_events};
 use oracle::misread::against;
 use oracle::model::form::refusal;
 use oracle::model::judge::Judge;
@@ -19,7 +20,7 @@ use oracle::random::Random;
 use oracle::report::{CHECKS, KINDS};
 use oracle::slips::slips;
 use oracle::stored::{check_form, check_traces};
-use oracle::vectors::{sample, trace_bytes};
+use oracle::vectors::{as_drawn, sample, trace_bytes};
 use oracle::wire::Record;
 
 /// The sample is fixed: one seed for the traces, one for the questions kept.
@@ -34,18 +35,19 @@ fn write_form(dir: &Path) {
 }
 
 fn write_traces(dir: &Path) {
-    let (drawn, tally) = sample(SEED, 10);
+    let (drawn, tally) = sample(SEED, &without_events(), 10);
+    let events = as_drawn(SEED, &WITH_EVENTS, 10);
     let mut comparer = Comparer::default();
     let misread = READINGS.iter().filter_map(|(reading, _)| against(&mut comparer, *reading));
     let told = examples().into_iter().map(|example| example.trace);
     let found = misread.map(|(trace, _)| trace).chain(slips());
-    let traces: Vec<_> = told.chain(found).chain(drawn).collect();
+    let traces: Vec<_> = told.chain(found).chain(drawn).chain(events).collect();
     let mut random = Random::new(SEED);
     let bytes: Vec<u8> = traces.iter().flat_map(|t| trace_bytes(t, &mut random)).collect();
     std::fs::write(dir.join("traces.bin"), bytes).expect("traces.bin");
     let records: usize = traces.iter().map(|trace| trace.records.len()).sum();
     println!("traces.bin: {} traces, {records} records", traces.len());
-    println!("in the drawn ones, passes and then kinds:");
+    println!("in those drawn without events, passes and then kinds:");
     for (check, name) in CHECKS.iter().enumerate() {
         println!("  {name}: {:?}", &tally[check][..=usize::from(KINDS[check])]);
     }

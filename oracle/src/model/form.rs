@@ -34,7 +34,7 @@ pub fn refusal(bytes: &[u8]) -> u8 {
 
 /// "node mark not 0 or 1; sub-code, flag, voter or span count outside its kind's
 /// values (0 alone where it has none); a counted span's key length above 31";
-/// "six or seven draw refusal 3".
+/// "six or seven draw refusal 3"; kind 12's flag is 0 or 1.
 fn outside_values(bytes: &[u8]) -> bool {
     let kind = bytes[0];
     let subs = match kind {
@@ -42,7 +42,7 @@ fn outside_values(bytes: &[u8]) -> bool {
         3 => 1..=7,
         _ => 0..=0,
     };
-    let flags = if kind == 1 { 0..=1 } else { 0..=0 };
+    let flags = if matches!(kind, 1 | 12) { 0..=1 } else { 0..=0 };
     let voters = if matches!(kind, 1 | 2 | 12) { 0..=5 } else { 0..=0 };
     let spans = match kind {
         1 | 2 => 1..=1,

@@ -1,10 +1,11 @@
-//! Document 01's judge over the model: opening, pushing, the eight reports, the
-//! look-ups and every refusal.
+//! Document 01's judge over the model, with document 02's events: opening,
+//! pushing, the eight reports, the look-ups and every refusal.
 
 use super::descriptors::{Puts, Role, role};
 use super::form::{Entry, entry, refusal};
 use super::half::Columns;
-use super::{generations, ids, meta, owners};
+use super::readings::{Reading, takes};
+use super::{events, generations, ids, meta, owners};
 use crate::lookups::Lookups;
 use crate::report::{Report, Reports};
 
@@ -47,18 +48,23 @@ impl Judge {
         c > MOST || log != 368 * c || work != 32 * c || self.count() > c
     }
 
-    /// A push with the log and work area lent: refusals 5, 1, 2, 3, 4, 6.
+    /// A push with the log and work area lent: refusals 5, 1, 2, 3, 4, 11, 6.
     pub fn push_lent(&mut self, log: usize, work: usize, bytes: &[u8]) -> u8 {
         if self.wrong_lengths(log, work) {
             return 5;
         }
-        match refusal(bytes) {
-            0 if self.count() == self.capacity => 6,
-            0 => {
-                self.take(entry(bytes));
-                0
-            }
-            other => other,
+        let form = refusal(bytes);
+        if form != 0 {
+            return form;
+        }
+        let x = entry(bytes);
+        if events::continues_nothing(&self.past, &x) {
+            11
+        } else if self.count() == self.capacity {
+            6
+        } else {
+            self.take(x);
+            0
         }
     }
 
@@ -95,9 +101,10 @@ impl Judge {
             ids::case(&self.past),
             meta::case(puts),
         ];
-        let position = self.past.len() as u64;
+        let position = events::number(&self.past);
         for (report, case) in self.reports.iter_mut().zip(cases) {
-            if report.kind == 0
+            let again = takes(Reading::LastFaultyRecord) && report.position == position;
+            if (report.kind == 0 || again)
                 && let Some((kind, evidence)) = case
             {
                 *report = Report::fault(kind, position, &evidence);

@@ -1,7 +1,9 @@
-//! A plain model of document 01, written from its prose and not from the Rust:
-//! every term is a look back over the records taken. Slow on purpose.
+//! A plain model of document 01, with document 02's changes so far, written from
+//! their prose and not from the Rust: every term is a look back over the records
+//! taken. Slow on purpose.
 
 pub mod descriptors;
+pub mod events;
 pub mod form;
 pub mod generations;
 pub mod half;

@@ -1,4 +1,4 @@
-//! Other readings of document 01's sentences, and from StateIgnored on plain slips
+//! Other readings of the documents' sentences, and from StateIgnored on plain slips
 //! (the highest for the lowest, the last for the first). The model takes none of
 //! them; each can be switched on alone, to find the smallest trace on which the
 //! Rust speaks against it.
@@ -65,6 +65,12 @@ pub enum Reading {
     MetaVotersIgnored,
     FifthVoterIgnored,
     FifthIsNoVoter,
+    PositionByRecord,
+    ParentContinues,
+    SameNumbersContinue,
+    LastFaultyRecord,
+    OneRangeAnEvent,
+    TwoRecordsAnEvent,
     /// A crash drops what it leaves, or leaves what it drops.
     Crash(Thing),
     /// RaftRefused likewise.
@@ -85,8 +91,9 @@ pub enum Thing {
 use Reading::*;
 use Thing::*;
 
-/// All of them, each with the words of document 01 that it reads otherwise.
-pub const READINGS: [(Reading, &str); 69] = [
+/// All of them, each with the words that it reads otherwise; the last six are
+/// about document 02's events.
+pub const READINGS: [(Reading, &str); 75] = [
     (LowestIndexAtGeneration, "`first_at_generation` the lowest index with that generation"),
     (
         CrashForgetsApplied,
@@ -183,6 +190,12 @@ pub const READINGS: [(Reading, &str); 69] = [
     (Refusal(Recorded), "RaftRefused drops the recorded indexes: it does not"),
     (Refusal(Debts), "RaftRefused drops debts: it does not"),
     (Refusal(HeldAtRestating), "RaftRefused drops what was held at the restatement: it does not"),
+    (PositionByRecord, "positions in reports now count events: records"),
+    (ParentContinues, "in kind 12 flag 1 continues: a RangeCreated's parent too"),
+    (SameNumbersContinue, "flag 0 begins one: not beside an event of the same node and index"),
+    (LastFaultyRecord, "a fault inside an event: its last faulty record's, not the first's"),
+    (OneRangeAnEvent, "the same node mark, node and index: and range"),
+    (TwoRecordsAnEvent, "the last one is not kind 12 ..: or itself continues"),
 ];
 
 thread_local! {
