@@ -119,7 +119,7 @@ suits-zero : (b : Bool) (x : ℕ) → cond b x 5 ≡ 0 → (b ≡ true) × (x �
 suits-zero true x e = (refl, e)
 suits-zero false x e = absurd (omega arith)
 
-next-zero : (form : ℕ) (lost full b : Bool) → eqb form 0 ≡ b → cond b (cond lost 11 (cond full 6 0)) form ≡ 0
+pub next-zero : (form : ℕ) (lost full b : Bool) → eqb form 0 ≡ b → cond b (cond lost 11 (cond full 6 0)) form ≡ 0
     → (form ≡ 0) × (lost ≡ false) × (full ≡ false)
 next-zero form true full true e z = absurd (omega arith)
 next-zero form false true true e z = absurd (omega arith)

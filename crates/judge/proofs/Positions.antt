@@ -6,7 +6,7 @@ use Prim.Native.Nat.{ℕ, _≤_, _<_}
 use native.Mathlib.Omega.{arith}
 use lib.ListN.{length, getD}
 use lib.Dec.{eqb}
-use borrow.Author.Tests.{eqb-true, eqb-false}
+use borrow.Author.Tests.{eqb-true}
 use Rattle.record.specs.Form.{refusalOf}
 use Rattle.record.specs.Records.{decode}
 use Rattle.rules.specs.declared.Case.{Case}
@@ -22,6 +22,7 @@ use Rattle.rules.proofs.ByEvents.{Lawful, fault-from-one}
 use Rattle.rules.proofs.Checks.{report-at, check-lawful, check-right}
 use Rattle.intake.specs.Refusals.{refusalAfter}
 use Rattle.intake.specs.Words.{Indexed}
+use Rattle.intake.proofs.Decisions.{next-zero}
 use Rattle.judge.specs.declared.opening.Opened.{Opened}
 use Rattle.judge.specs.Openings.{Fits, Opens}
 use Rattle.judge.specs.States.{State}
@@ -31,14 +32,9 @@ use Rattle.judge.proofs.Demand3.{previewed-same, opened-ran}
 
 -- ---- a record that is taken has an event
 
-lost-by : (form : ℕ) (lost full b : Bool) → eqb form 0 ≡ b → cond b (cond lost 11 (cond full 6 0)) form ≡ 0 → lost ≡ false
-lost-by form true full true e z = absurd (omega arith)
-lost-by form false full true e z = refl
-lost-by form lost full false e z = absurd (eqb-false form 0 e z)
-
 -- what the table does not refuse is not refused by 11
 pub not-stray : (cap : ℕ) (h : History) (bytes : List ℕ) → refusalAfter cap h bytes ≡ 0 → stray (decode bytes) h ≡ false
-not-stray cap h bytes z = lost-by (refusalOf bytes) (stray (decode bytes) h) (eqb (length h) cap) (eqb (refusalOf bytes) 0) refl z
+not-stray cap h bytes z = next-zero (refusalOf bytes) (stray (decode bytes) h) (eqb (length h) cap) (eqb (refusalOf bytes) 0) refl z .1
 
 committed-zero : (b : Bool) (r : ℕ) → cond b r 10 ≡ 0 → r ≡ 0
 committed-zero true r z = z
