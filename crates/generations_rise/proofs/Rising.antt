@@ -19,25 +19,15 @@ use Rattle.rules.specs.declared.Verdict.the-variants.{Pass}
 use Rattle.rules.specs.History.{History, holds, isSome, anyOf, latestOf, firsts}
 use Rattle.rules.specs.Cases.{isFault}
 use Rattle.rules.specs.GenerationsRise.{Write, tellsWrite, sameWrite, writes, isEarlier, opposes, writeFault, generationsAt}
-use Rattle.rules.specs.Reports.{AtRecord, atLast, Arises, reportOf}
+use Rattle.rules.specs.Reports.{atLast, Arises, reportOf}
 use Rattle.rules.proofs.Booleans.{and-left, and-right, both, or-cases, or-left, or-right}
-use Rattle.rules.proofs.Reports.{reportOf-pass}
+use Rattle.rules.proofs.ByEvents.{none-arose}
 use Rattle.rules.proofs.Members.{anyOf-mem, anyOf-some, anyOf-none}
 use Rattle.ids_unique.proofs.Firsts.{any-latest}
 use Rattle.rules.proofs.Skips.{anyOf-nil, anyOf-skip, latestOf-nil, latestOf-hit, latestOf-skip, firsts-nil, firsts-hit, firsts-skip, firsts-known}
 
--- ---- the report of a pass says that no case arose
-
 pub clash : {A : Type 0} {b : Bool} → b ≡ true → b ≡ false → A
 clash e d = let z : true ≡ false = sym e ∙ d in let y : _≡_ {A = ℕ} 0 1 = cc in absurd (omega arith)
-
-module _ (f : AtRecord) where
-  pub none-arose : (h : History) → reportOf (atLast f) h .verdict ≡ Pass → Arises f h → ⊥
-  unfolding Arises
-  none-arose [] e = λ y. y
-  none-arose (x ∷ h) e =
-      let s = reportOf-pass (atLast f) x h e in
-      ⊎-elim (λ y. clash y (s .1)) (none-arose h (s .0))
 
 -- ---- the last write of a key
 

@@ -13,3 +13,4 @@ pub mod Previews
 pub mod Commits
 pub mod Demand2
 pub mod Pieces
+pub mod AnyOrder

@@ -10,3 +10,4 @@ pub mod Previews
 pub mod Traces
 pub mod Demand2
 pub mod Pieces
+pub mod AnyOrder

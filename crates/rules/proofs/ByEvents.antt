@@ -1,7 +1,7 @@
 -- A report that is right by records is right by events, for any check whose fault is had to the end of its event; and such are the
 -- checks whose cases arise at records, and those judged as a whole that are constant along events.
 use mathlib.Core.Path.{_≡_, refl, sym, ap, _∙_, subst}
-use mathlib.Core.Bool.{true}
+use mathlib.Core.Bool.{true, false}
 use mathlib.Core.List.{[], _∷_}
 use mathlib.Core.Logic.{_⊎_, inl, inr, ⊎-elim}
 use Prim.Native.Nat.{ℕ, suc, _≤_, _<_}
@@ -12,16 +12,19 @@ use Rattle.rules.specs.declared.Case.{Case}
 use Rattle.rules.specs.declared.Case.the-variants.{Clear, Fault}
 use Rattle.rules.specs.declared.Evidence.{Evidence}
 use Rattle.rules.specs.declared.Report.{Report}
+use Rattle.rules.specs.declared.Verdict.the-variants.{Pass}
 use Rattle.record.specs.Records.{TraceRecord}
 use Rattle.rules.specs.History.{History}
 use Rattle.rules.specs.Cases.{isFault}
 use Rattle.rules.specs.Events.{first, continues, events, position, recordsIn, firstEvents}
-use Rattle.rules.specs.Reports.{faulted, AtRecord, atLast, HasWhole, Arises, Steady, FirstFault, Right, reportOf}
+use Rattle.rules.specs.Reports.{passed, faulted, AtRecord, atLast, HasWhole, Arises, Steady, FirstFault, Right, reportOf}
 use Rattle.rules.proofs.Booleans.{decide, never}
 use Rattle.rules.proofs.Beginnings.{first-later, first-all, first-nil, first-none, first-past, first-length, first-first}
 use Rattle.rules.proofs.Events.{events-same, events-next, events-first, events-order, recordsIn-within, recordsIn-longest, firstEvents-all}
 use Rattle.rules.proofs.Events.{firstEvents-later, firstEvents-most, Begun}
+use Rattle.rules.proofs.CaseLists.{clear-of}
 use Rattle.rules.proofs.Reports.{FirstRecord, RightByRecords, Judged, clean, faulty, judged, right-by-records}
+use Rattle.rules.proofs.Reports.{reportOf-none, reportOf-clear, reportOf-pass}
 
 -- what a check has to supply: an empty history has no fault, what its last record has it has, what it has its last record has or it
 -- had before, and what it has it has with a record that continues
@@ -215,3 +218,18 @@ module _ (f : AtRecord) where
 
   pub arises-lawful : Lawful (Arises f) (atLast f)
   arises-lawful = record { nothing = arises-none; last = arises-last; only = arises-only; along = λ x h c y. arises-more x h y }
+
+  -- the report is a pass exactly where no case arose
+  pub none-arose : (h : History) → reportOf (atLast f) h .verdict ≡ Pass → Arises f h → ⊥
+  unfolding Arises
+  none-arose [] e = λ y. y
+  none-arose (x ∷ h) e =
+      let s = reportOf-pass (atLast f) x h e in
+      ⊎-elim (λ y. never y (s .1)) (none-arose h (s .0))
+
+  pub none-passes : (h : History) → (Arises f h → ⊥) → reportOf (atLast f) h ≡ passed
+  unfolding Arises
+  none-passes [] n = reportOf-none (atLast f)
+  none-passes (x ∷ h) n =
+      let c : isFault (f x h) ≡ false = ⊎-elim (λ y. absurd (n (inl y))) (λ y. y) (decide (isFault (f x h))) in
+      reportOf-clear (atLast f) x h (none-passes h (λ y. n (inr y))) (clear-of (f x h) c)

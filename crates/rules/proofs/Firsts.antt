@@ -4,10 +4,14 @@ use mathlib.Core.Bool.{Bool, true, false, cond}
 use mathlib.Core.List.{List, [], _∷_, _++_}
 use mathlib.Core.Option.{Option, none, some}
 use mathlib.Core.Logic.{_⊎_, inl, inr, ⊎-elim}
+use Prim.Native.Nat.{_≤_}
+use native.Mathlib.Omega.{arith}
+use lib.ListN.{length}
 use Rattle.record.specs.Records.{TraceRecord}
-use Rattle.rules.specs.History.{History, Tells, orElse, addSome, addFirst, anyOf, latestOf, told, latest, firsts}
+use Rattle.rules.specs.History.{History, Tells, orElse, addSome, addFirst, anyOf, those, latestOf, told, latest, firsts}
 use Rattle.rules.proofs.Booleans.{decide, never}
-use Rattle.rules.proofs.Members.{Mem, here, there, mem-nil, Passing, NonePasses, anyOf-mem, anyOf-some, anyOf-none, none-anyOf}
+use Rattle.rules.proofs.Members.{Mem, here, there, mem-nil, Passing, NonePasses, anyOf-mem, anyOf-some, anyOf-none, none-anyOf, those-mem}
+use Rattle.rules.proofs.Skips.{those-nil, those-hit, those-skip}
 
 module _ {A : Type 0} where
   -- one of the records told a, judged by it and those before
@@ -79,6 +83,20 @@ module _ {A : Type 0} where
   apart-one (joined h w) here (there n) e f = never e (h _ n)
   apart-one (joined h w) (there m) here e f = never f (h _ m)
   apart-one (joined h w) (there m) (there n) e f = apart-one w m n e f
+
+  -- .. those that pass are so too ..
+  pub those-apart : {same : A → A → Bool} (p : A → Bool) {xs : List A} → Apart same xs → Apart same (those p xs)
+  those-apart p alone = rw (those-nil p) alone
+  those-apart p (joined {x = x} {xs = xs} h w) = ⊎-elim
+      (λ e. rw (those-hit p x xs e) (joined (λ y m. h y (those-mem p xs m .0)) (those-apart p w)))
+      (λ e. rw (those-skip p x xs e) (those-apart p w))
+      (decide (p x))
+
+  -- .. and where all are the same there is one at most
+  pub apart-few : {same : A → A → Bool} {xs : List A} → Apart same xs → ((a b : A) → Mem a xs → Mem b xs → same a b ≡ true) → length xs ≤ 1
+  apart-few alone f = omega arith
+  apart-few (joined {x = x} {xs = []} h w) f = omega arith
+  apart-few (joined {x = x} {xs = y ∷ ys} h w) f = never (f x y here (there here)) (h y here)
 
   -- what is the same as itself, and as what is the same as a same one
   pub record Sameness (same : A → A → Bool) : Type 0 where

@@ -4,6 +4,7 @@ pub mod Examples
 pub mod Booleans
 pub mod Skips
 pub mod Members
+pub mod Permutations
 pub mod Placed
 pub mod Best
 pub mod Firsts
@@ -25,6 +26,8 @@ pub mod Standing
 pub mod LookUps
 -- ids
 pub mod Blocks
+pub mod Grants
+pub mod AnyOrder
 -- owners, and the right half
 pub mod Registering
 pub mod OwnDebts

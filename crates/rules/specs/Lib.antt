@@ -17,3 +17,4 @@ pub mod MoreExamples
 pub mod RightHalfExamples
 pub mod EventExamples
 pub mod LookUpExamples
+pub mod AnyOrder

@@ -62,3 +62,8 @@ pub record SheetSays (input bytes : List ℕ) : Type 0 where
   pub check-line : (k : ℕ) → k < checkCount → CheckLine k input (lineAt k bytes)
   pub last-line : LastSays input (lineAt checkCount bytes)
   pub end : lineAt (checkCount + 1) bytes ≡ []
+
+-- of the ids lines of two sheets: "passes both or faults both"
+pub data LinesAlike (name line other : List ℕ) : Type 0 where
+  both-pass : line ≡ passLine name → other ≡ passLine name → LinesAlike name line other
+  both-fault : FaultLine name line → FaultLine name other → LinesAlike name line other

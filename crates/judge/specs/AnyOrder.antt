@@ -1,0 +1,40 @@
+-- Grants in any order, of the judge: any run from any opening, and what a look-up of an id's holders gives where the ids report passes.
+use mathlib.Core.Path.{_≡_}
+use mathlib.Core.Bool.{true}
+use mathlib.Core.List.{List, [], _∷_}
+use Prim.Native.Nat.{ℕ, _≤_}
+use lib.ListN.{length, drop}
+use Rattle.rules.specs.declared.Opening.{Opening}
+use Rattle.rules.specs.History.{History, Mem}
+use Rattle.rules.specs.IdsUnique.{Grant, contains}
+use Rattle.rules.specs.AnyOrder.{grantsOf}
+use Rattle.intake.specs.Words.{Indexed}
+use Rattle.judge.specs.declared.lookup.Looked.{Looked}
+use Rattle.judge.specs.declared.opening.Opened.{Opened}
+use Rattle.judge.specs.States.{State, refusalNumber}
+use Rattle.judge.specs.Openings.{Fits, Opens}
+use Rattle.judge.specs.Calls.{Call, takenOf}
+use Rattle.judge.specs.Runs.{Run, stateOf}
+
+-- a run that took the records of h and left t: an opening without refusal, whatever its numbers and whatever the log held, and any list of
+-- calls after it, refused ones included
+pub record RunOf (h : History) (t : State) : Type 0 where
+  pub opening : Opening
+  pub capacity : ℕ
+  pub log : List ℕ
+  pub work : List ℕ
+  pub work′ : List ℕ
+  pub opened : Opened
+  pub calls : List Call
+  pub fits : Fits (length log) (length work) capacity
+  pub opens : Opens opening (length log) work opened work′
+  pub run : Run Indexed (stateOf (opened .judge) log work′) calls t
+  pub takes : takenOf capacity calls [] ≡ h
+
+-- "`holders_of` gives at most one holder": so many are said, no word but the first is written, and a list of one word is never too short.
+-- And it gives one where a grant contains the id, that grant's node, be it the first at its index or a repeat
+pub record OneHolder (id : ℕ) (h : History) (out out′ : List ℕ) (r : Looked) : Type 0 where
+  pub most : r .value ≤ 1
+  pub rest : drop 1 out′ ≡ drop 1 out
+  pub room : 1 ≤ length out → refusalNumber (r .refusal) ≡ 0
+  pub holder : (g : Grant) → Mem g (grantsOf h) → contains id g ≡ true → 1 ≤ length out → (r .value ≡ 1) × (out′ ≡ g .node ∷ drop 1 out)
