@@ -21,8 +21,8 @@ use Rattle.ids_unique.proofs.Words.{length-holders}
 use Rattle.judge.specs.declared.lookup.Looked.{Looked}
 use Rattle.judge.specs.declared.lookup.Question.the-variants.{HoldersOf}
 use Rattle.judge.specs.declared.trace.Traced.{Traced}
-use Rattle.judge.specs.States.{State}
-use Rattle.judge.specs.Lookups.{Answered, LookedBy}
+use Rattle.judge.specs.States.{State, refusalNumber}
+use Rattle.judge.specs.Lookups.{LookedBy}
 use Rattle.judge.specs.Runs.{reportAt}
 use Rattle.judge.specs.Demand2.{Demand2}
 use Rattle.judge.specs.Pieces.{recordsTaken, WholeTrace}
@@ -49,7 +49,7 @@ one-word : (g : Grant) → holderWords (g ∷ []) ≡ g .node ∷ []
 unfolding holderWords
 one-word g = refl
 
-module _ (id : ℕ) (h : History) (u : Unique (grantsOf h)) (out out′ : List ℕ) (r : Looked) (a : Answered (HoldersOf id) h out out′ r) where
+module _ (id : ℕ) (h : History) (u : Unique (grantsOf h)) (out : List ℕ) where
   abbrev words : List ℕ
   words = holderWords (holdersOf id h)
 
@@ -59,32 +59,36 @@ module _ (id : ℕ) (h : History) (u : Unique (grantsOf h)) (out out′ : List �
   roomy : 1 ≤ length out → tooShort words out ≡ false
   roomy l = let f = few in le-ltb (length out) (length words) (omega arith)
 
-  held-by : (g : Grant) → Mem g (grantsOf h) → contains id g ≡ true → 1 ≤ length out → (r .value ≡ 1) × (out′ ≡ g .node ∷ drop 1 out)
-  held-by g m c l =
-      let one : holdersOf id h ≡ g ∷ [] = holder-is h u id g m c in
-      let word : words ≡ g .node ∷ [] = ap holderWords one ∙ one-word g in (
-        a .value ∙ ap (λ (b : Bool). cond b 0 (length (holdersOf id h))) (roomy l) ∙ ap (λ (gs : List Grant). length gs) one,
-        a .list ∙ ap (λ (b : Bool). cond b out (words ++ drop (length words) out)) (roomy l) ∙ ap (λ (ws : List ℕ). ws ++ drop (length ws) out) word,
-      )
+  module _ {refusal value : ℕ} {out′ : List ℕ} (valued : value ≡ cond (tooShort words out) 0 (length (holdersOf id h))) (listed : out′ ≡ listWith words out) where
+    held-by : (g : Grant) → Mem g (grantsOf h) → contains id g ≡ true → 1 ≤ length out → (value ≡ 1) × (out′ ≡ g .node ∷ drop 1 out)
+    held-by g m c l =
+        let one : holdersOf id h ≡ g ∷ [] = holder-is h u id g m c in
+        let word : words ≡ g .node ∷ [] = ap holderWords one ∙ one-word g in (
+          valued ∙ ap (λ (b : Bool). cond b 0 (length (holdersOf id h))) (roomy l) ∙ ap (λ (gs : List Grant). length gs) one,
+          listed ∙ ap (λ (b : Bool). cond b out (words ++ drop (length words) out)) (roomy l) ∙ ap (λ (ws : List ℕ). ws ++ drop (length ws) out) word,
+        )
 
-  one-held : OneHolder id h out out′ r
-  one-held = record {
-    most = subst (λ (n : ℕ). n ≤ 1) (sym (a .value)) (most-by (tooShort words out) (length (holdersOf id h)) (held-once h u id));
-    rest = ap (drop 1) (a .list) ∙ rest-by (tooShort words out) words out few;
-    room = λ l. a .refusal ∙ ap (λ (b : Bool). cond b 8 0) (roomy l);
-    holder = held-by;
-  }
+    -- the rules' answer has one holder at most
+    pub one-held : refusal ≡ cond (tooShort words out) 8 0 → OneHolder id h out refusal value out′
+    one-held refused = record {
+      most = subst (λ (n : ℕ). n ≤ 1) (sym valued) (most-by (tooShort words out) (length (holdersOf id h)) (held-once h u id));
+      rest = ap (drop 1) listed ∙ rest-by (tooShort words out) words out few;
+      room = λ l. refused ∙ ap (λ (b : Bool). cond b 8 0) (roomy l);
+      holder = held-by;
+    }
 
 -- ---- whatever the second demand holds of: a run of calls, a whole trace, a host's words
 
-ids-report : {o : Opening} {h : History} {t : State} → Demand2 o h t → reportAt idsPlace t ≡ idsOf o h
+pub ids-report : {o : Opening} {h : History} {t : State} → Demand2 o h t → reportAt idsPlace t ≡ idsOf o h
 ids-report {o} {h} d = ap (λ (rs : List Report). getD rs idsPlace passed) (d .reports) ∙ report-at o h idsPlace (omega arith)
 
 -- where the ids report passes, an id has one holder at most
 pub demand-one-holder : {o : Opening} {h : History} {t : State} → Demand2 o h t → reportAt idsPlace t ≡ passed
-    → (id : ℕ) (out out′ : List ℕ) (r : Looked) → LookedBy (HoldersOf id) (t .judge) (t .log) (t .work) out out′ r → OneHolder id h out out′ r
+    → (id : ℕ) (out out′ : List ℕ) (r : Looked) → LookedBy (HoldersOf id) (t .judge) (t .log) (t .work) out out′ r
+    → OneHolder id h out (refusalNumber (r .refusal)) (r .value) out′
 demand-one-holder {o} {h} d e id out out′ r l =
-    one-held id h (ids-passes o h .0 (sym (ids-report d) ∙ e)) out out′ r (d .answers (HoldersOf id) out out′ r l)
+    let a = d .answers (HoldersOf id) out out′ r l in
+    one-held id h (ids-passes o h .0 (sym (ids-report d) ∙ e)) out (a .value) (a .list) (a .refusal)
 
 module _ {o p : Opening} {h g : History} {t u : State} (d : Demand2 o h t) (f : Demand2 p g u) (q : Perm (grantsOf h) (grantsOf g)) where
   -- two with the same grants, in whichever order, pass both or fault both ..
@@ -129,7 +133,7 @@ module _ {h g : History} {t u : State} (w : RunOf h t) (v : RunOf g u) where
 
 -- AT MOST ONE HOLDER: "in a passing trace `holders_of` gives at most one holder for every id"
 pub run-one-holder : {h : History} {t : State} → RunOf h t → reportAt idsPlace t ≡ passed → (id : ℕ) (out out′ : List ℕ) (r : Looked)
-    → LookedBy (HoldersOf id) (t .judge) (t .log) (t .work) out out′ r → OneHolder id h out out′ r
+    → LookedBy (HoldersOf id) (t .judge) (t .log) (t .work) out out′ r → OneHolder id h out (refusalNumber (r .refusal)) (r .value) out′
 run-one-holder w = demand-one-holder (run-demand2 w)
 
 -- ---- whole traces, by their own bytes

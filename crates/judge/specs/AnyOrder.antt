@@ -9,9 +9,8 @@ use Rattle.rules.specs.History.{History, Mem}
 use Rattle.rules.specs.IdsUnique.{Grant, contains}
 use Rattle.rules.specs.AnyOrder.{grantsOf}
 use Rattle.intake.specs.Words.{Indexed}
-use Rattle.judge.specs.declared.lookup.Looked.{Looked}
 use Rattle.judge.specs.declared.opening.Opened.{Opened}
-use Rattle.judge.specs.States.{State, refusalNumber}
+use Rattle.judge.specs.States.{State}
 use Rattle.judge.specs.Openings.{Fits, Opens}
 use Rattle.judge.specs.Calls.{Call, takenOf}
 use Rattle.judge.specs.Runs.{Run, stateOf}
@@ -31,10 +30,11 @@ pub record RunOf (h : History) (t : State) : Type 0 where
   pub run : Run Indexed (stateOf (opened .judge) log work′) calls t
   pub takes : takenOf capacity calls [] ≡ h
 
--- "`holders_of` gives at most one holder": so many are said, no word but the first is written, and a list of one word is never too short.
--- And it gives one where a grant contains the id, that grant's node, be it the first at its index or a repeat
-pub record OneHolder (id : ℕ) (h : History) (out out′ : List ℕ) (r : Looked) : Type 0 where
-  pub most : r .value ≤ 1
+-- "`holders_of` gives at most one holder", of the number that a look-up returns as its refusal, its value and the list that it was lent: so
+-- many are said, no word but the first is written, and a list of one word is never too short. And it gives one where a grant contains the
+-- id, that grant's node, be it the first at its index or a repeat
+pub record OneHolder (id : ℕ) (h : History) (out : List ℕ) (refusal value : ℕ) (out′ : List ℕ) : Type 0 where
+  pub most : value ≤ 1
   pub rest : drop 1 out′ ≡ drop 1 out
-  pub room : 1 ≤ length out → refusalNumber (r .refusal) ≡ 0
-  pub holder : (g : Grant) → Mem g (grantsOf h) → contains id g ≡ true → 1 ≤ length out → (r .value ≡ 1) × (out′ ≡ g .node ∷ drop 1 out)
+  pub room : 1 ≤ length out → refusal ≡ 0
+  pub holder : (g : Grant) → Mem g (grantsOf h) → contains id g ≡ true → 1 ≤ length out → (value ≡ 1) × (out′ ≡ g .node ∷ drop 1 out)

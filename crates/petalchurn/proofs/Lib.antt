@@ -4,3 +4,4 @@ pub mod PreviewLaws
 pub mod AnswerLaws
 pub mod Runs
 pub mod Campaigns
+pub mod AnyOrder
