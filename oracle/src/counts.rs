@@ -1,6 +1,8 @@
 //! What compared traces came to: how many there were, and how often each check's
 //! each kind was reported.
 
+use std::borrow::Borrow;
+
 use crate::generate::Trace;
 use crate::report::{CHECKS, KINDS, Reports};
 
@@ -35,13 +37,11 @@ impl Counts {
 
     /// A row of the table that `header` begins.
     pub fn row(&self, name: &str) -> String {
-        let mut row = format!("| {name} | {} | {} | {}", self.traces, self.records, self.passes);
-        for (check, kinds) in KINDS.iter().enumerate() {
-            for kind in 1..=usize::from(*kinds) {
-                row += &format!(" | {}", self.faults[check][kind]);
-            }
+        let mut numbers = vec![self.traces, self.records, self.passes];
+        for (faults, kinds) in self.faults.iter().zip(KINDS) {
+            numbers.extend(&faults[1..=usize::from(kinds)]);
         }
-        row + " |"
+        line(name, &numbers)
     }
 }
 
@@ -52,5 +52,16 @@ pub fn header() -> String {
     for (check, kinds) in CHECKS.iter().zip(KINDS) {
         names.extend((1..=kinds).map(|kind| format!("{check} {kind}")));
     }
+    columns(&names)
+}
+
+/// The first two lines of a table with these columns.
+pub fn columns<N: Borrow<str>>(names: &[N]) -> String {
     format!("| {} |\n|{}", names.join(" | "), "---|".repeat(names.len()))
+}
+
+/// A row of a table: its name and its numbers.
+pub fn line(name: &str, numbers: &[u64]) -> String {
+    let numbers: String = numbers.iter().map(|number| format!(" | {number}")).collect();
+    format!("| {name}{numbers} |")
 }

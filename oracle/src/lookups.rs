@@ -69,8 +69,12 @@ pub fn questions(records: &[Record]) -> Vec<Question> {
         out.extend(indexes.iter().map(|i| Question::At(range, *i)));
         out.extend(generations.iter().map(|g| Question::FirstAtGeneration(range, *g)));
     }
-    let grants = records.iter().filter(|r| r.kind == 11);
-    let ids = around(grants.flat_map(|r| [r.numbers[3], r.numbers[4]]));
-    out.extend(ids.into_iter().map(Question::HoldersOf));
+    out.extend(ids(records).into_iter().map(Question::HoldersOf));
     out
+}
+
+/// The ids whose holders could differ: the bounds of each grant, and those beside them.
+pub fn ids(records: &[Record]) -> BTreeSet<u64> {
+    let grants = records.iter().filter(|r| r.kind == 11);
+    around(grants.flat_map(|r| [r.numbers[3], r.numbers[4]]))
 }

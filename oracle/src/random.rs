@@ -39,6 +39,15 @@ impl Random {
         &items[self.below(items.len() as u64) as usize]
     }
 
+    /// The items in a drawn order.
+    pub fn shuffled<T: Clone>(&mut self, items: &[T]) -> Vec<T> {
+        let mut out = items.to_vec();
+        for at in (1..out.len()).rev() {
+            out.swap(at, self.below(at as u64 + 1) as usize);
+        }
+        out
+    }
+
     /// A place in a list of weights, each drawn as often as its weight says.
     pub fn weighted(&mut self, weights: &[u64]) -> usize {
         let mut at = self.below(weights.iter().sum());

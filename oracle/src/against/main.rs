@@ -7,6 +7,8 @@
 //!   against exhaustive                    all short traces over small alphabets
 //!   against previews [TRACES_PER_PROFILE [SEED]]
 //!                                         previews of records that are not taken, at every point
+//!   against orders [TRACES_PER_PROFILE [SEED]]
+//!                                         the grants of a trace in other orders: one ids verdict
 //!   against form [SEED]                   pushes, previews and commits with things wrong
 //!   against tally [ENTRIES [SEED]]        a campaign, and entries of every sort into a tally
 //!   against vectors DIR                   the stored vectors, form.bin and traces.bin
@@ -21,6 +23,7 @@ mod buffers;
 mod calls;
 mod console;
 mod host;
+mod orders;
 mod previews;
 mod tallies;
 
@@ -258,6 +261,7 @@ fn main() {
     match args.first().map(String::as_str) {
         Some("exhaustive") => exhaustive(),
         Some("form") => calls::compare(number(1, 1)),
+        Some("orders") => orders::compare(number(1, 4_000), number(2, 1)),
         Some("previews") => previews::compare(number(1, 4_000), number(2, 1)),
         Some("tally") => tallies::compare(number(1, 1_000_000), number(2, 1)),
         Some("vectors") => stored(args.get(1).expect("a folder")),

@@ -19,7 +19,7 @@ use crate::console::{Console, Drew, Other, Others};
 use crate::{capacity, disagree};
 
 /// Draws for a point of a trace: the same again where it is shrunk.
-fn draws(number: u64, count: usize) -> Random {
+pub fn draws(number: u64, count: usize) -> Random {
     Random::new(number.wrapping_mul(0x9e37_79b9).wrapping_add(count as u64))
 }
 
@@ -116,8 +116,8 @@ fn run(
     Ok(reports)
 }
 
-/// Counts of previews by refusal, added up.
-pub fn add(all: &mut Drew, more: Drew) {
+/// Counts, such as those of previews by refusal, added up.
+pub fn add<const N: usize>(all: &mut [u64; N], more: [u64; N]) {
     all.iter_mut().zip(more).for_each(|(all, more)| *all += more);
 }
 
