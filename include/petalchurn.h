@@ -212,7 +212,7 @@ petalchurn_answer petalchurn_is_empty(const uint64_t *state, size_t state_len, c
 /* Writes the node of each block of ids that contains an id, one word each; or every block, three words each: first, last, node.
  * Both come by first id, then by time. The value is how many there are, not how many words; the rest of out is left. As many
  * words as the records taken, or three times as many, are always enough. Where the ids report is a pass an id has one holder at
- * most, and one word is enough.
+ * most, and one word is enough for petalchurn_holders_of.
  * Refusals: 5, then 8 where out is shorter than the answer. */
 petalchurn_answer petalchurn_holders_of(const uint64_t *state, size_t state_len, const uint8_t *log, size_t log_len,
                                         const uint64_t *work, size_t work_len, uint64_t id, uint64_t *out, size_t out_len);

@@ -59,7 +59,7 @@ module _ (id : ℕ) (h : History) (u : Unique (grantsOf h)) (out : List ℕ) whe
   roomy : 1 ≤ length out → tooShort words out ≡ false
   roomy l = let f = few in le-ltb (length out) (length words) (omega arith)
 
-  module _ {refusal value : ℕ} {out′ : List ℕ} (valued : value ≡ cond (tooShort words out) 0 (length (holdersOf id h))) (listed : out′ ≡ listWith words out) where
+  module _ {value : ℕ} {out′ : List ℕ} (valued : value ≡ cond (tooShort words out) 0 (length (holdersOf id h))) (listed : out′ ≡ listWith words out) where
     held-by : (g : Grant) → Mem g (grantsOf h) → contains id g ≡ true → 1 ≤ length out → (value ≡ 1) × (out′ ≡ g .node ∷ drop 1 out)
     held-by g m c l =
         let one : holdersOf id h ≡ g ∷ [] = holder-is h u id g m c in
@@ -69,7 +69,7 @@ module _ (id : ℕ) (h : History) (u : Unique (grantsOf h)) (out : List ℕ) whe
         )
 
     -- the rules' answer has one holder at most
-    pub one-held : refusal ≡ cond (tooShort words out) 8 0 → OneHolder id h out refusal value out′
+    pub one-held : {refusal : ℕ} → refusal ≡ cond (tooShort words out) 8 0 → OneHolder id h out refusal value out′
     one-held refused = record {
       most = subst (λ (n : ℕ). n ≤ 1) (sym valued) (most-by (tooShort words out) (length (holdersOf id h)) (held-once h u id));
       rest = ap (drop 1) listed ∙ rest-by (tooShort words out) words out few;

@@ -157,7 +157,8 @@ const COLUMNS: [&str; 11] = [
     "look-ups",
 ];
 
-/// The numbers of a row. Those from the fourth on count pairs of a trace and an order of it.
+/// The numbers of a row. From the fourth to the last but one they count pairs of a trace and an
+/// order of it.
 type Row = [u64; COLUMNS.len() - 1];
 
 impl Tried {
