@@ -3,23 +3,19 @@
 use mathlib.Core.Path.{_≡_, refl, sym, ap, _∙_}
 use mathlib.Core.Bool.{Bool, true, false, cond, _||_}
 use mathlib.Core.List.{List, [], _∷_}
-use mathlib.Core.Logic.{inl, inr}
 use mathlib.Core.Option.{Option, none, some}
 use Prim.Native.Nat.{ℕ, _≤_, _<_}
 use native.Mathlib.Omega.{arith}
 use lib.Dec.{ltb, leb}
-use borrow.Author.Tests.{ltb-true, ltb-false, leb-true, le-leb, eqb-true}
-use Rattle.record.specs.Records.{TraceRecord}
-use Rattle.rules.specs.History.{History, isSome, holds, anyOf, those, firsts, latestOf, greater, greatestOf}
-use Rattle.rules.specs.Cases.{isFault, faultIf}
-use Rattle.rules.specs.IdsUnique.{Grant, grantBy, sameIndex, firstGrants, nonempty, shares, blocksOf, sharedFault, firstFault, idsAt}
+use borrow.Author.Tests.{ltb-true, ltb-false, leb-true}
+use Rattle.rules.specs.History.{History, holds, anyOf, greater, greatestOf}
+use Rattle.rules.specs.IdsUnique.{Grant, sameIndex, nonempty, shares, blocksOf, idsAt}
 use Rattle.rules.specs.Reports.{Arises}
-use Rattle.rules.proofs.Booleans.{and-left, and-right}
-use Rattle.ids_unique.specs.Blocks.{tellsBlock}
-use Rattle.ids_unique.proofs.Firsts.{never, grant-kind, grant-is, grant-known, any-latest}
-use Rattle.ids_unique.proofs.Blocks.{block-first, block-full, blocks-more, blocks-same}
-use Rattle.ids_unique.proofs.Cases.{grant-case}
-use Rattle.ids_unique.proofs.Sharing.{best, Known, known}
+use Rattle.rules.proofs.Members.{Mem, here, there}
+use Rattle.rules.proofs.Firsts.{Apart as Distinct, alone as nothing, joined}
+use Rattle.rules.proofs.Grants.{shares-is, shares-by, block-told, blocks-apart, blocks-share-none}
+use Rattle.ids_unique.proofs.Firsts.{never}
+use Rattle.ids_unique.proofs.Sharing.{best}
 
 -- what holds of every element
 pub data All (P : Grant → Type 0) : List Grant → Type 0 where
@@ -31,14 +27,9 @@ pub data Apart : List Grant → Type 0 where
   alone : Apart []
   besides : {o : Grant} {os : List Grant} → nonempty o ≡ true → All (λ v. shares o v ≡ false) os → Apart os → Apart (o ∷ os)
 
-all-of : (p : Grant → Bool) (os : List Grant) → anyOf p os ≡ false → All (λ v. p v ≡ false) os
-unfolding anyOf
-all-of p [] e = nil
-all-of p (o ∷ os) e = more (neither (p o) (anyOf p os) e .0) (all-of p os (neither (p o) (anyOf p os) e .1))
-  where
-    neither : (a b : Bool) → a || b ≡ false → (a ≡ false) × (b ≡ false)
-    neither true b q = let z : _≡_ {A = ℕ} 0 1 = cc in absurd (omega arith)
-    neither false b q = (refl, q)
+all-by : {P : Grant → Type 0} (os : List Grant) → ((v : Grant) → Mem v os → P v) → All P os
+all-by [] f = nil
+all-by (o ∷ os) f = more (f o here) (all-by os (λ v m. f v (there m)))
 
 all-full : {os : List Grant} → Apart os → All (λ v. nonempty v ≡ true) os
 all-full alone = nil
@@ -63,15 +54,6 @@ module _ (g : Grant) where
 
 -- of two blocks that share no id the one with the greater first shares one with g, where either does
 module _ (g o m : Grant) (a : shares o m ≡ false) (no : nonempty o ≡ true) (nm : nonempty m ≡ true) where
-  shares-is : (v w : Grant) → shares v w ≡ true → (w .first ≤ v .last) × (v .first ≤ w .last)
-  shares-is v w e = (
-    leb-true (w .first) (v .last) (and-left (leb (w .first) (v .last)) (leb (v .first) (w .last)) e),
-    leb-true (v .first) (w .last) (and-right (leb (w .first) (v .last)) (leb (v .first) (w .last)) e),
-  )
-
-  shares-by : (v w : Grant) → w .first ≤ v .last → v .first ≤ w .last → shares v w ≡ true
-  shares-by v w p q = rw (le-leb (w .first) (v .last) p, le-leb (v .first) (w .last) q)
-
   apart-is : (m .first ≤ o .last → o .first ≤ m .last → ⊥)
   apart-is p q = let z : true ≡ false = sym (shares-by o m p q) ∙ a in let y : _≡_ {A = ℕ} 0 1 = cc in omega arith
 
@@ -124,44 +106,16 @@ best-decides g (besides {o} {os} n a r) = go (leb (o .first) (g .last)) (best g 
     go true (some m) t b e = pick (ltb (m .first) (o .first)) m b refl t e
     go false b t q e = rw t e
 
--- a record with a block that no fault arises at: its block shares no id with those before
-module _ (x : TraceRecord) (h : History) {g : Grant} (t : tellsBlock x h ≡ some g) where
-  none-before : latestOf (sameIndex (grantBy x)) (firstGrants h) ≡ none
-  none-before = go (latestOf (sameIndex (grantBy x)) (firstGrants h)) refl
-    where
-      go : (o : Option Grant) → latestOf (sameIndex (grantBy x)) (firstGrants h) ≡ o → o ≡ none
-      go none e = refl
-      go (some v) e =
-          absurd (never (sym (grant-known x h (grant-kind x h (block-first x h t))
-          (any-latest (sameIndex (grantBy x)) (firstGrants h) ∙ ap isSome e)) ∙ block-first x h t))
-
-  block-case : idsAt x h ≡ faultIf (anyOf (shares g) (blocksOf h)) (sharedFault g (blocksOf h))
-  block-case =
-      grant-case x h none refl (eqb-true (x .kind) 11 (grant-kind x h (block-first x h t))) none-before
-      ∙ ap (λ (v : Grant). firstFault v (blocksOf h)) (grant-is x h (block-first x h t))
-      ∙ rw (block-full x h t)
-
-  none-shared : (isFault (idsAt x h) ≡ true → ⊥) → anyOf (shares g) (blocksOf h) ≡ false
-  none-shared n = go (anyOf (shares g) (blocksOf h)) (best g (blocksOf h)) refl refl (known g (blocksOf h))
-    where
-      go : (s : Bool) (b : Option Grant) → anyOf (shares g) (blocksOf h) ≡ s → best g (blocksOf h) ≡ b → Known g (blocksOf h) b → s ≡ false
-      go false b e d k = refl
-      go true none e d k = sym e ∙ k .1
-      go true (some m) e d k = absurd (n (rw (block-case, e, d)))
-
-none-yet : Apart (blocksOf [])
-unfolding blocksOf firstGrants firsts those
-none-yet = alone
+-- blocks of different indexes, none of them empty, that share no id
+apart-of : {bs : List Grant} → Distinct sameIndex bs → ((g : Grant) → Mem g bs → nonempty g ≡ true)
+    → ((g o : Grant) → Mem g bs → Mem o bs → sameIndex g o ≡ false → shares g o ≡ false) → Apart bs
+apart-of nothing f s = alone
+apart-of (joined {x = x} {xs = xs} n w) f s =
+    besides (f x here) (all-by xs (λ v m. s x v here (there m) (n v m))) (apart-of w (λ g m. f g (there m)) (λ g o m k. s g o (there m) (there k)))
 
 -- while no fault arose the blocks are apart
 pub apart : (h : History) → (Arises idsAt h → ⊥) → Apart (blocksOf h)
-unfolding Arises
-apart [] n = none-yet
-apart (x ∷ h) n = go (tellsBlock x h) refl (apart h (λ a. n (inr a)))
-  where
-    go : (o : Option Grant) → tellsBlock x h ≡ o → Apart (blocksOf h) → Apart (blocksOf (x ∷ h))
-    go none e a = rw (blocks-same x h e) a
-    go (some g) e a = rw (blocks-more x h e) (besides (block-full x h e) (all-of (shares g) (blocksOf h) (none-shared x h e (λ z. n (inl z)))) a)
+apart h n = apart-of (blocks-apart h) (λ g m. block-told h m .1) (blocks-share-none h n)
 
 -- THE LAW: while no fault arose, a block shares an id with some older one exactly where it shares one with that of the
 -- greatest first not above its last

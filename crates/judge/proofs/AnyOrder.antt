@@ -13,8 +13,9 @@ use Rattle.rules.specs.History.{History, Mem}
 use Rattle.rules.specs.IdsUnique.{Grant, contains, holdersOf}
 use Rattle.rules.specs.Reports.{passed}
 use Rattle.rules.specs.AnyOrder.{leasedOf, grantsOf, Unique, idsPlace, idsOf, Alike}
+use Rattle.rules.proofs.Members.{NonePasses}
 use Rattle.rules.proofs.Checks.{report-at}
-use Rattle.rules.proofs.Grants.{held-once, holder-is}
+use Rattle.rules.proofs.Grants.{one-holder, holder-is, holder-none}
 use Rattle.rules.proofs.AnyOrder.{ids-passes, ids-any-order, holders-any-order, leased-grants}
 use Rattle.ids_unique.specs.Answers.{tooShort, holderWords}
 use Rattle.ids_unique.proofs.Words.{length-holders}
@@ -27,6 +28,7 @@ use Rattle.judge.specs.Runs.{reportAt}
 use Rattle.judge.specs.Demand2.{Demand2}
 use Rattle.judge.specs.Pieces.{recordsTaken, WholeTrace}
 use Rattle.judge.specs.AnyOrder.{RunOf, OneHolder}
+use Rattle.judge.proofs.Lookups.{none-fit}
 use Rattle.judge.proofs.Demand2.{demand2}
 
 -- ---- a look-up of holders, by the rules' answer
@@ -45,6 +47,10 @@ most-by false n l = l
 abbrev listWith : List ℕ → List ℕ → List ℕ
 listWith ws out = cond (tooShort ws out) out (ws ++ drop (length ws) out)
 
+no-word : holderWords [] ≡ []
+unfolding holderWords
+no-word = refl
+
 one-word : (g : Grant) → holderWords (g ∷ []) ≡ g .node ∷ []
 unfolding holderWords
 one-word g = refl
@@ -54,7 +60,7 @@ module _ (id : ℕ) (h : History) (u : Unique (grantsOf h)) (out : List ℕ) whe
   words = holderWords (holdersOf id h)
 
   few : length words ≤ 1
-  few = let once = held-once h u id in omega (arith, length-holders (holdersOf id h))
+  few = let once = one-holder h u id in omega (arith, length-holders (holdersOf id h))
 
   roomy : 1 ≤ length out → tooShort words out ≡ false
   roomy l = let f = few in le-ltb (length out) (length words) (omega arith)
@@ -68,13 +74,25 @@ module _ (id : ℕ) (h : History) (u : Unique (grantsOf h)) (out : List ℕ) whe
           listed ∙ ap (λ (b : Bool). cond b out (words ++ drop (length words) out)) (roomy l) ∙ ap (λ (ws : List ℕ). ws ++ drop (length ws) out) word,
         )
 
+    held-by-none : {refusal : ℕ} → refusal ≡ cond (tooShort words out) 8 0 → NonePasses (contains id) (grantsOf h)
+        → (refusal ≡ 0) × (value ≡ 0) × (out′ ≡ out)
+    held-by-none refused n =
+        let none : holdersOf id h ≡ [] = holder-none h id n in
+        let word : words ≡ [] = ap holderWords none ∙ no-word in
+        let fits : tooShort words out ≡ false = ap (λ (ws : List ℕ). tooShort ws out) word ∙ none-fit out in (
+          refused ∙ ap (λ (b : Bool). cond b 8 0) fits,
+          valued ∙ ap (λ (b : Bool). cond b 0 (length (holdersOf id h))) fits ∙ ap (λ (gs : List Grant). length gs) none,
+          listed ∙ ap (λ (b : Bool). cond b out (words ++ drop (length words) out)) fits ∙ ap (λ (ws : List ℕ). ws ++ drop (length ws) out) word,
+        )
+
     -- the rules' answer has one holder at most
     pub one-held : {refusal : ℕ} → refusal ≡ cond (tooShort words out) 8 0 → OneHolder id h out refusal value out′
     one-held refused = record {
-      most = subst (λ (n : ℕ). n ≤ 1) (sym valued) (most-by (tooShort words out) (length (holdersOf id h)) (held-once h u id));
+      most = subst (λ (n : ℕ). n ≤ 1) (sym valued) (most-by (tooShort words out) (length (holdersOf id h)) (one-holder h u id));
       rest = ap (drop 1) listed ∙ rest-by (tooShort words out) words out few;
       room = λ l. refused ∙ ap (λ (b : Bool). cond b 8 0) (roomy l);
       holder = held-by;
+      nobody = held-by-none refused;
     }
 
 -- ---- whatever the second demand holds of: a run of calls, a whole trace, a host's words

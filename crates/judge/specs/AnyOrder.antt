@@ -1,6 +1,6 @@
 -- Grants in any order, of the judge: any run from any opening, and what a look-up of an id's holders gives where the ids report passes.
 use mathlib.Core.Path.{_≡_}
-use mathlib.Core.Bool.{true}
+use mathlib.Core.Bool.{true, false}
 use mathlib.Core.List.{List, [], _∷_}
 use Prim.Native.Nat.{ℕ, _≤_}
 use lib.ListN.{length, drop}
@@ -30,11 +30,12 @@ pub record RunOf (h : History) (t : State) : Type 0 where
   pub run : Run Indexed (stateOf (opened .judge) log work′) calls t
   pub takes : takenOf capacity calls [] ≡ h
 
--- "`holders_of` gives at most one holder", of the number that a look-up returns as its refusal, its value and the list that it was lent: so
--- many are said, no word but the first is written, and a list of one word is never too short. And it gives one where a grant contains the
--- id, that grant's node, be it the first at its index or a repeat
+-- "`holders_of` gives at most one holder", of a look-up's refusal, its value and the list that it was lent: the value is 1 at most, no word
+-- but the first is written, and a list of one word or more is never refused. Where a grant contains the id there is a holder, that grant's
+-- node, be the grant the first at its index or a repeat; where none does there is none
 pub record OneHolder (id : ℕ) (h : History) (out : List ℕ) (refusal value : ℕ) (out′ : List ℕ) : Type 0 where
   pub most : value ≤ 1
   pub rest : drop 1 out′ ≡ drop 1 out
   pub room : 1 ≤ length out → refusal ≡ 0
   pub holder : (g : Grant) → Mem g (grantsOf h) → contains id g ≡ true → 1 ≤ length out → (value ≡ 1) × (out′ ≡ g .node ∷ drop 1 out)
+  pub nobody : ((g : Grant) → Mem g (grantsOf h) → contains id g ≡ false) → (refusal ≡ 0) × (value ≡ 0) × (out′ ≡ out)

@@ -1,4 +1,5 @@
--- Grants in any order, of the library: what two hosts read back that took the same grants, and how many holders an id has. Assumes nothing.
+-- Grants in any order, of the library: the ids reports in the buffers of two hosts that took the same grants, and how many holders an id
+-- has. Assumes nothing.
 use mathlib.Core.Path.{_≡_, sym, _∙_}
 use mathlib.Core.List.{List, Perm}
 use Prim.Native.Nat.{ℕ}

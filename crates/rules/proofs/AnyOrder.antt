@@ -14,13 +14,13 @@ use Rattle.rules.specs.IdsUnique.{Grant, grantBy, sameIndex, grantEqb, f
 use Rattle.rules.specs.Events.{events}
 use Rattle.rules.specs.Reports.{passed, faulted, atLast, Arises, reportOf}
 use Rattle.rules.specs.Checks.{checkAt}
-use Rattle.rules.specs.AnyOrder.{leasedOf, grantsOf, Unique, idsPlace, idsOf, Alike, pass, fault, HeldOnce, oneLog, otherLog}
+use Rattle.rules.specs.AnyOrder.{leasedOf, grantsOf, Unique, idsPlace, idsOf, Alike, pass, fault, AtMostOneHolder, oneLog, otherLog}
 use Rattle.rules.proofs.Booleans.{decide, never, and-left, and-right, both}
 use Rattle.rules.proofs.Members.{Mem, anyOf-mem, anyOf-some, anyOf-none}
 use Rattle.rules.proofs.Permutations.{perm-mem, perm-those}
 use Rattle.rules.proofs.Reports.{Judged, clean, faulty, judged, passed-or}
 use Rattle.rules.proofs.ByEvents.{arises-lawful, none-arose, none-passes}
-use Rattle.rules.proofs.Grants.{same-grant, grant-itself, unique-within, clear-unique, held-once, holder-is, holder-none}
+use Rattle.rules.proofs.Grants.{same-grant, grant-itself, unique-within, clear-unique, one-holder, holder-is, holder-none}
 
 -- the place is that of the check whose word in the sheet is ids
 pub ids-place : checkAt idsPlace .name ≡ "ids"
@@ -37,8 +37,8 @@ ids-passes o h = (
 )
 
 -- "in a passing trace `holders_of` gives at most one holder for every id"
-pub passed-held-once : (o : Opening) (h : History) → idsOf o h ≡ passed → HeldOnce h
-passed-held-once o h e = held-once h (ids-passes o h .0 e)
+pub passed-one-holder : (o : Opening) (h : History) → idsOf o h ≡ passed → AtMostOneHolder h
+passed-one-holder o h e = one-holder h (ids-passes o h .0 e)
 
 -- ---- lists with the same grants
 

@@ -17,7 +17,7 @@ use Rattle.rules.specs.Cases.{isFault, fault, faultIf, caseOf}
 use Rattle.rules.specs.IdsUnique.{Grant, grantBy, tellsGrant, sameIndex, firstGrants, grantEqb, nonempty, blocksOf, contains, shares}
 use Rattle.rules.specs.IdsUnique.{sharedFault, firstFault, grantFault, idsAt, holdersOf}
 use Rattle.rules.specs.Reports.{Arises}
-use Rattle.rules.specs.AnyOrder.{leasedOf, grantsOf, Agree, Unique, HeldOnce}
+use Rattle.rules.specs.AnyOrder.{leasedOf, grantsOf, Agree, Unique, AtMostOneHolder}
 use Rattle.rules.proofs.Booleans.{decide, never, and-left, and-right, both}
 use Rattle.rules.proofs.Members.{Mem, here, there, mem-nil, mem-cons, NonePasses, anyOf-some, anyOf-none, none-anyOf, those-mem, mem-those}
 use Rattle.rules.proofs.Placed.{placed-mem, Latest, Answer, latestOf-right}
@@ -66,30 +66,44 @@ grant-itself g = both (both (both (itself (g .node)) (itself (g .run))) (itself 
     itself : (n : ℕ) → eqb n n ≡ true
     itself n = eq-eqb n n refl
 
--- two grants with an id in both share one; two nonempty ones that share one have an id in both
+-- the tests of two grants and of an id, as facts
+leb-both : (a b c d : ℕ) → leb a b && leb c d ≡ true → (a ≤ b) × (c ≤ d)
+leb-both a b c d e = (leb-true a b (and-left (leb a b) (leb c d) e), leb-true c d (and-right (leb a b) (leb c d) e))
+
+both-leb : (a b c d : ℕ) → a ≤ b → c ≤ d → leb a b && leb c d ≡ true
+both-leb a b c d p q = both (le-leb a b p) (le-leb c d q)
+
 module _ (g o : Grant) where
+  pub shares-is : shares g o ≡ true → (o .first ≤ g .last) × (g .first ≤ o .last)
+  shares-is e = leb-both (o .first) (g .last) (g .first) (o .last) e
+
+  pub shares-by : o .first ≤ g .last → g .first ≤ o .last → shares g o ≡ true
+  shares-by p q = both-leb (o .first) (g .last) (g .first) (o .last) p q
+
+  -- two grants with an id in both share one; two nonempty ones that share one have an id in both
   pub both-share : (id : ℕ) → contains id g ≡ true → contains id o ≡ true → shares g o ≡ true
   both-share id p q =
-      let a = leb-true (g .first) id (and-left (leb (g .first) id) (leb id (g .last)) p) in
-      let b = leb-true id (g .last) (and-right (leb (g .first) id) (leb id (g .last)) p) in
-      let c = leb-true (o .first) id (and-left (leb (o .first) id) (leb id (o .last)) q) in
-      let d = leb-true id (o .last) (and-right (leb (o .first) id) (leb id (o .last)) q) in
-      both (le-leb (o .first) (g .last) (omega arith)) (le-leb (g .first) (o .last) (omega arith))
+      let a = leb-both (g .first) id id (g .last) p in
+      let b = leb-both (o .first) id id (o .last) q in
+      let below : g .first ≤ id = a .0 in
+      let above : id ≤ o .last = b .1 in
+      shares-by (omega (arith, a .1, b .0)) (omega arith)
 
   pub shared-id : nonempty g ≡ true → nonempty o ≡ true → shares g o ≡ true → (id : ℕ) × (contains id g ≡ true) × (contains id o ≡ true)
   shared-id m n e =
-      let below : o .first ≤ g .last = leb-true (o .first) (g .last) (and-left (leb (o .first) (g .last)) (leb (g .first) (o .last)) e) in
-      let above : g .first ≤ o .last = leb-true (g .first) (o .last) (and-right (leb (o .first) (g .last)) (leb (g .first) (o .last)) e) in
+      let s = shares-is e in
+      let full : g .first ≤ g .last = leb-true (g .first) (g .last) m in
+      let last : o .first ≤ o .last = leb-true (o .first) (o .last) n in
       elim (decLe (g .first) (o .first)) [
         | yes l ↦ (
           o .first,
-          both (le-leb (g .first) (o .first) l) (le-leb (o .first) (g .last) below),
-          both (le-leb (o .first) (o .first) (omega arith)) n,
+          both-leb (g .first) (o .first) (o .first) (g .last) l (s .0),
+          both-leb (o .first) (o .first) (o .first) (o .last) (omega arith) last,
         )
         | no l ↦ (
           g .first,
-          both (le-leb (g .first) (g .first) (omega arith)) m,
-          both (le-leb (o .first) (g .first) (omega arith)) (le-leb (g .first) (o .last) above),
+          both-leb (g .first) (g .first) (g .first) (g .last) (omega arith) full,
+          both-leb (o .first) (g .first) (g .first) (o .last) (omega arith) (s .1),
         )
       ]
 
@@ -264,12 +278,24 @@ clear-unique h = (
   λ u. told-clear h (subst Unique (grants-told h) u),
 )
 
--- ---- holders
+-- ---- blocks and holders
 
 -- no two blocks have one index
-blocks-apart : (h : History) → Apart sameIndex (blocksOf h)
+pub blocks-apart : (h : History) → Apart sameIndex (blocksOf h)
 unfolding blocksOf firstGrants
 blocks-apart h = those-apart nonempty (firsts-apart sameIndex tellsGrant h)
+
+-- while no fault arose, blocks of different indexes share no id
+pub blocks-share-none : (h : History) → (Arises idsAt h → ⊥) → (g o : Grant) → Mem g (blocksOf h) → Mem o (blocksOf h) → sameIndex g o ≡ false
+    → shares g o ≡ false
+blocks-share-none h n g o m k d =
+    let b = block-told h m in
+    let c = block-told h k in
+    let a = clear-told h n .pairs g o (first-told h (b .0)) (first-told h (c .0)) in
+    ⊎-elim
+    (λ s. let t = shared-id g o (b .1) (c .1) s in absurd (a .apart (eqb-false (g .index) (o .index) d) (t .0) (t .1) (t .2)))
+    (λ s. s)
+    (decide (shares g o))
 
 -- what has no member, and what has one and no second
 empty-of : {xs : List Grant} → ((g : Grant) → Mem g xs → ⊥) → xs ≡ []
@@ -294,8 +320,8 @@ module _ (h : History) (u : Unique (grantsOf h)) where
       ⊎-elim (λ e. e) (λ e. absurd (a .apart (eqb-false (g .index) (o .index) e) id (v .1) (w .1))) (decide (sameIndex g o))
 
   -- so there is one at most
-  pub held-once : HeldOnce h
-  held-once id =
+  pub one-holder : AtMostOneHolder h
+  one-holder id =
       let few : length (those (contains id) (blocksOf h)) ≤ 1 = apart-few (those-apart (contains id) (blocks-apart h)) (one-index id) in
       let many : length (holdersOf id h) ≡ length (those (contains id) (blocksOf h)) = perm-length (holders-perm id h) in
       omega arith
@@ -304,7 +330,7 @@ module _ (h : History) (u : Unique (grantsOf h)) where
   pub holder-is : (id : ℕ) (g : Grant) → Mem g (grantsOf h) → contains id g ≡ true → holdersOf id h ≡ g ∷ []
   holder-is id g m c =
       let t : Mem g (told tellsGrant h) = subst (λ (gs : List Grant). Mem g gs) (grants-told h) m in
-      single-of (held-once id) (holders-mem id h g (told-first h told-unique t) c)
+      single-of (one-holder id) (holders-mem id h g (told-first h told-unique t) c)
 
 -- an id that no grant contains has no holder
 pub holder-none : (h : History) (id : ℕ) → NonePasses (contains id) (grantsOf h) → holdersOf id h ≡ []

@@ -22,7 +22,7 @@ leasedOf h = those (isKind 11) h
 abbrev pub grantsOf : History → List Grant
 grantsOf h = map grantBy (leasedOf h)
 
--- two grants that can both be taken without a fault, whichever comes first: at one index they are one grant, at two they share no id
+-- two grants that do not contradict each other, whichever comes first: at one index they are one grant, at two they share no id
 pub record Agree (g o : Grant) : Type 0 where
   pub one : g .index ≡ o .index → g ≡ o
   pub apart : (g .index ≡ o .index → ⊥) → (id : ℕ) → contains id g ≡ true → contains id o ≡ true → ⊥
@@ -45,8 +45,8 @@ pub data Alike (r s : Report) : Type 0 where
   fault : (n m kind other : ℕ) (e d : Evidence) → r ≡ faulted n kind e → s ≡ faulted m other d → Alike r s
 
 -- "at most one holder for every id"
-abbrev pub HeldOnce : History → Type 0
-HeldOnce h = (id : ℕ) → length (holdersOf id h) ≤ 1
+abbrev pub AtMostOneHolder : History → Type 0
+AtMostOneHolder h = (id : ℕ) → length (holdersOf id h) ≤ 1
 
 -- three grants, of which two share an id and one has none, as two stations log them: the records newest first
 abbrev pub oneLog : History
