@@ -1,7 +1,6 @@
--- Agreement with one more record: where it was clear before, only the new record and the statements that a new value touches
--- are judged. Assumes nothing.
+-- A new value where agreement was clear before: which statements become faulty by it, and the case of the earliest. Assumes nothing.
 use mathlib.Core.Path.{_≡_, refl, sym, ap, _∙_}
-use mathlib.Core.Bool.{Bool, true, false, cond, not, _&&_, _||_}
+use mathlib.Core.Bool.{Bool, true, false, cond, not, _&&_, _||_, and-false}
 use mathlib.Core.List.{List, [], _∷_}
 use mathlib.Core.Option.{Option, none, some}
 use mathlib.Core.Logic.{⊎-elim}
@@ -11,150 +10,23 @@ use native.Mathlib.Decide.{decLt}
 use lib.Dec.{eqb, ltb, leb}
 use borrow.Author.Tests.{lt-ltb, le-ltb, le-leb, lt-leb, eq-eqb, ne-eqb, ltb-true, ltb-false, leb-true, eqb-true, eqb-false, not-true}
 use Rattle.record.specs.Records.{TraceRecord}
-use Rattle.record.proofs.Keys.{decide, never}
+use Rattle.record.proofs.Booleans.{decide, never, and-left, and-right}
 use Rattle.rules.specs.declared.Case.{Case}
 use Rattle.rules.specs.declared.Case.the-variants.{Clear}
-use Rattle.rules.specs.History.{History, holds, isSome, anyOf, latestOf, earliestOf, greater, greatestOf, lower, lowestOf, addSome, told, addFirst, firsts}
-use Rattle.rules.specs.Cases.{isFault, fault, faultIf, orCase, caseOf, earliestCase}
-use Rattle.rules.specs.Descriptors.{heldBy, Entry, Role, puts, states, neither, roleOf, entryAt, putBy, statedBy, samePlace, standing, stated, atIn, heldEqb, putFault, putsDiffer, aheadFault, differsFault, statementFault, agreement}
-use Rattle.descriptors.specs.Agreement.{touches, agreementPut, agreementRole, agreementAt, nextIn, lastIn, aheadIn, fallsBehind, goesAgainst, newFaulty}
-use Rattle.rules.proofs.Booleans.{and-left, and-right}
+use Rattle.rules.specs.History.{History, holds, isSome, anyOf, earliestOf, greater, lower, lowestOf}
+use Rattle.rules.specs.Cases.{isFault, fault, caseOf}
+use Rattle.rules.specs.Descriptors.{Entry, puts, roleOf, entryAt, samePlace, standing, stated, atIn, heldEqb, aheadFault, differsFault, statementFault}
+use Rattle.rules.specs.Descriptors.{agreement}
 use Rattle.rules.proofs.Same.{held-same}
-use Rattle.descriptors.proofs.Lists.{clear-left, clear-right, or-clear, those-enough, earliest-agree, earliest-passes, earliest-fault, found-clear, any-latest, In, here, any-in, greatest-above, lowest-below, greatest-is, lowest-is}
-
--- what one more record changes
-pub standing-cons : (x : TraceRecord) (h : History) → standing (x ∷ h) ≡ addFirst samePlace (putBy (roleOf x h) x h) (standing h)
-unfolding standing firsts
-standing-cons x h = refl
-
-pub stated-cons : (x : TraceRecord) (h : History) → stated (x ∷ h) ≡ addSome (statedBy (roleOf x h) x h) (stated h)
-unfolding stated told
-stated-cons x h = refl
-
-puts-cons : (x : TraceRecord) (h : History) → putsDiffer (x ∷ h) ≡ orCase (putsDiffer h) (putFault (putBy (roleOf x h) x h) (standing h))
-unfolding putsDiffer
-puts-cons x h = refl
-
--- a place at which no value stands has nothing to differ from
-none-step : (v : Entry) (b c : Bool) (o : Option Entry) → (c ≡ false → o ≡ none) → b || c ≡ false → cond b (some v) o ≡ none
-none-step v true c o e w = never refl w
-none-step v false c o e w = e w
-
-pub none-latest : (p : Entry) (vs : List Entry) → anyOf (samePlace p) vs ≡ false → latestOf (samePlace p) vs ≡ none
-unfolding anyOf latestOf
-none-latest p [] h = refl
-none-latest p (v ∷ vs) h = none-step v (samePlace p v) (anyOf (samePlace p) vs) (latestOf (samePlace p) vs) (none-latest p vs) h
-
-none-differs : (p : Entry) (vs : List Entry) → anyOf (samePlace p) vs ≡ false → putFault (some p) vs ≡ Clear
-unfolding putFault
-none-differs p vs h = rw (none-latest p vs h)
-
--- a value that passes no test leaves what the test finds
-pub greatest-pass : (t : Entry → Bool) (p : Entry) (vs : List Entry) → t p ≡ false → greatestOf (λ v. v .index) t (p ∷ vs) ≡ greatestOf (λ v. v .index) t vs
-unfolding greatestOf
-greatest-pass t p vs h = rw h
-
-pub lowest-pass : (t : Entry → Bool) (p : Entry) (vs : List Entry) → t p ≡ false → lowestOf (λ v. v .index) t (p ∷ vs) ≡ lowestOf (λ v. v .index) t vs
-unfolding lowestOf
-lowest-pass t p vs h = rw h
-
-at-pass : (p : Entry) (vs : List Entry) (s : Entry) → eqb (p .range) (s .range) && leb (p .index) (s .index) ≡ false
-    → atIn (s .range) (s .index) (p ∷ vs) ≡ atIn (s .range) (s .index) vs
-unfolding atIn
-at-pass p vs s h = greatest-pass (λ v. eqb (v .range) (s .range) && leb (v .index) (s .index)) p vs h
-
-ahead-pass : (p : Entry) (vs : List Entry) (s : Entry)
-    → eqb (p .range) (s .range) && ltb (s .index) (p .index) && eqb (p .held .generation) (s .held .generation) ≡ false
-    → aheadFault s (p ∷ vs) ≡ aheadFault s vs
-unfolding aheadFault
-ahead-pass p vs s h =
-    rw (lowest-pass (λ v. eqb (v .range) (s .range) && ltb (s .index) (v .index) && eqb (v .held .generation) (s .held .generation)) p vs h)
-
--- a statement's case, by the value that it is judged by and what is ahead of it
-faultBy : Entry → Case → Entry → Case
-faultBy s ahead v =
-    faultIf (not (heldEqb (v .held) (s .held)))
-    (cond (ltb (v .held .generation) (s .held .generation)) ahead (fault 3 (s .range ∷ s .index ∷ [])))
-
-statement-by : (vs : List Entry) (s : Entry) → statementFault vs s ≡ caseOf (faultBy s (aheadFault s vs)) (atIn (s .range) (s .index) vs)
-unfolding statementFault differsFault faultBy
-statement-by vs s = refl
-
--- a value that does not touch a statement leaves its case as it was
-untouched-at : (a b d : Bool) → a && (b || d) ≡ false → a && b ≡ false
-untouched-at true true d h = h
-untouched-at true false d h = refl
-untouched-at false b d h = refl
-
-untouched-ahead : (a b c d : Bool) → a && (b || d) ≡ false → a && c && d ≡ false
-untouched-ahead true true c d h = never refl h
-untouched-ahead true false true d h = h
-untouched-ahead true false false d h = refl
-untouched-ahead false b c d h = refl
-
-pub untouched : (p : Entry) (vs : List Entry) (s : Entry) → touches p s ≡ false → statementFault (p ∷ vs) s ≡ statementFault vs s
-untouched p vs s u =
-    rw (
-      statement-by (p ∷ vs) s,
-      statement-by vs s,
-      at-pass p vs s (untouched-at (eqb (p .range) (s .range)) (leb (p .index) (s .index)) (eqb (p .held .generation) (s .held .generation)) u),
-      ahead-pass p vs s (untouched-ahead (eqb (p .range) (s .range)) (leb (p .index) (s .index)) (ltb (s .index) (p .index)) (eqb (p .held .generation) (s .held .generation)) u),
-    )
-
--- ---- one more record
-
--- agreement of one more record whose role is given
-abbrev agreed : Role → TraceRecord → History → Case
-agreed role x h =
-    orCase (orCase (putsDiffer h) (putFault (putBy role x h) (standing h)))
-    (earliestCase (statementFault (addFirst samePlace (putBy role x h) (standing h))) (addSome (statedBy role x h) (stated h)))
-
-agreement-cons : (x : TraceRecord) (h : History) → agreement (x ∷ h) ≡ agreed (roleOf x h) x h
-unfolding agreement
-agreement-cons x h = rw (puts-cons x h, standing-cons x h, stated-cons x h)
-
-put-none : (vs : List Entry) → putFault none vs ≡ Clear
-unfolding putFault
-put-none vs = refl
-
-case-cons : (f : Entry → Case) (s : Entry) (ss : List Entry) → earliestCase f (s ∷ ss) ≡ orCase (earliestCase f ss) (f s)
-unfolding earliestCase
-case-cons f s ss = refl
-
-module _ (x : TraceRecord) (h : History) (k : agreement h ≡ Clear) where
-  pub puts-clear : putsDiffer h ≡ Clear
-  unfolding agreement
-  puts-clear = clear-left (putsDiffer h) (earliestCase (statementFault (standing h)) (stated h)) k
-
-  pub stated-clear : earliestCase (statementFault (standing h)) (stated h) ≡ Clear
-  unfolding agreement
-  stated-clear = clear-right (putsDiffer h) (earliestCase (statementFault (standing h)) (stated h)) k
-
-  -- a put, by whether a value stands at its place
-  agreed-put : (p : Entry) (b : Bool) → anyOf (samePlace p) (standing h) ≡ b
-      → orCase (orCase (putsDiffer h) (putFault (some p) (standing h)))
-      (earliestCase (statementFault (cond b (standing h) (p ∷ standing h))) (stated h))
-      ≡ agreementPut b p h
-  agreed-put p true e = rw (puts-clear, stated-clear) (or-clear _)
-  agreed-put p false e =
-      rw (puts-clear, none-differs p (standing h) e)
-      (those-enough (statementFault (standing h)) (statementFault (p ∷ standing h)) (touches p) (untouched p (standing h)) (stated h) stated-clear)
-
-  agreed-role : (role : Role) → agreed role x h ≡ agreementRole role x h
-  agreed-role neither = rw (puts-clear, put-none, stated-clear)
-  agreed-role (states i) = rw (puts-clear, put-none, case-cons, stated-clear)
-  agreed-role (puts i) = agreed-put (entryAt i x h) (anyOf (samePlace (entryAt i x h)) (standing h)) refl
-
-  -- THE LAW: judging what the record touches is judging the whole beginning
-  pub agreement-more : agreement (x ∷ h) ≡ agreementAt x h
-  unfolding agreementAt
-  agreement-more = agreement-cons x h ∙ agreed-role (roleOf x h)
+use Rattle.rules.proofs.Tellings.{none-of}
+use Rattle.rules.proofs.Members.{Mem, here, anyOf-mem}
+use Rattle.rules.proofs.Placed.{placed-mem, earliest-meets}
+use Rattle.rules.proofs.Best.{greatest-meets, greatest-above, lowest-meets, lowest-below}
+use Rattle.rules.proofs.CaseLists.{earliestCase-is, earliest-agree, found-clear}
+use Rattle.rules.proofs.Agreement.{at-pass, ahead-pass, faultBy, statement-by, untouched, fault-by, at-new, stated-clear, agreement-new}
+use Rattle.descriptors.specs.Agreement.{nextIn, lastIn, aheadIn, fallsBehind, goesAgainst, newFaulty}
 
 -- ---- a new standing value
-
-and-false : (b : Bool) → b && false ≡ false
-and-false true = refl
-and-false false = refl
 
 -- something is ahead of a statement exactly where that is a fault
 ahead-by : (s : Entry) (vs : List Entry) → aheadFault s vs ≡ caseOf (λ v. fault 2 (s .range ∷ s .index ∷ v .index ∷ [])) (aheadIn s vs)
@@ -165,25 +37,8 @@ is-ahead : (s : Entry) (o : Option Entry) → isFault (caseOf (λ (v : Entry). f
 is-ahead s none = refl
 is-ahead s (some v) = refl
 
-pub ahead-fault : (s : Entry) (vs : List Entry) → isFault (aheadFault s vs) ≡ isSome (aheadIn s vs)
+ahead-fault : (s : Entry) (vs : List Entry) → isFault (aheadFault s vs) ≡ isSome (aheadIn s vs)
 ahead-fault s vs = rw (ahead-by s vs) (is-ahead s (aheadIn s vs))
-
--- a fault of a statement against the value v, as Bools
-fault-by : (s v : Entry) (c : Case) → isFault (faultBy s c v)
-    ≡ not (heldEqb (v .held) (s .held)) && (not (ltb (v .held .generation) (s .held .generation)) || isFault c)
-unfolding faultBy
-fault-by s v c = go (heldEqb (v .held) (s .held)) (ltb (v .held .generation) (s .held .generation))
-  where
-    go : (a b : Bool) → isFault (faultIf (not a) (cond b c (fault 3 (s .range ∷ s .index ∷ [])))) ≡ not a && (not b || isFault c)
-    go true b = refl
-    go false true = refl
-    go false false = refl
-
--- the value that a statement is judged by where its index is not below p's and p is the greatest so far
-pub at-new : (p : Entry) (vs : List Entry) (s : Entry) → eqb (p .range) (s .range) && leb (p .index) (s .index) ≡ true
-    → atIn (s .range) (s .index) (p ∷ vs) ≡ greater (λ v. v .index) p (atIn (s .range) (s .index) vs)
-unfolding atIn greatestOf
-at-new p vs s h = rw h
 
 -- the Bools of the law below: a, the same value; b, a lower generation; c, something was ahead; x, the generation was taken above
 behind : (a b c x : Bool) → (a ≡ true → b ≡ false) → not a && (not b || c) ≡ false → (c ≡ false → x ≡ false)
@@ -200,10 +55,6 @@ equal-ltb {m} {n} e = le-ltb m n (omega arith)
 
 is-none : (o : Option Entry) (n : Entry) → o ≡ some n → isSome o ≡ false → ⊥
 is-none o n e f = never (ap isSome e) f
-
-pub some-none : (o : Option Entry) → isSome o ≡ false → o ≡ none
-some-none none e = refl
-some-none (some v) e = never refl e
 
 holds-some : (t : Entry → Bool) (o : Option Entry) (n : Entry) → o ≡ some n → holds t o ≡ t n
 holds-some t o n e = ap (holds t) e
@@ -223,23 +74,24 @@ module _ (p : Entry) (vs : List Entry) (s : Entry) (k : statementFault vs s ≡ 
     unfolding lastIn aheadIn
     above-go none e g f h = never h refl
     above-go (some w) e g f h =
-        let i = greatest-is (λ v. v .index) (λ v. eqb (v .range) (p .range) && eqb (v .held .generation) (p .held .generation)) w vs e in
-        let a : w .range ≡ s .range = eqb-true _ _ (and-left (eqb (w .range) (p .range)) (eqb (w .held .generation) (p .held .generation)) (i .passes)) ∙ sym r in
+        let i = greatest-meets (λ v. v .index) (λ v. eqb (v .range) (p .range) && eqb (v .held .generation) (p .held .generation)) {xs = vs} {r = w} e in
+        let a : w .range ≡ s .range = eqb-true _ _ (and-left (eqb (w .range) (p .range)) (eqb (w .held .generation) (p .held .generation)) (i .place .passes))
+        ∙ sym r in
         let d : w .held .generation ≡ s .held .generation =
-        eqb-true _ _ (and-right (eqb (w .range) (p .range)) (eqb (w .held .generation) (p .held .generation)) (i .passes)) ∙ sym g in
+        eqb-true _ _ (and-right (eqb (w .range) (p .range)) (eqb (w .held .generation) (p .held .generation)) (i .place .passes)) ∙ sym g in
         let b = lowest-below (λ v. v .index)
-        (λ v. eqb (v .range) (s .range) && ltb (s .index) (v .index) && eqb (v .held .generation) (s .held .generation)) (i .there)
+        (λ v. eqb (v .range) (s .range) && ltb (s .index) (v .index) && eqb (v .held .generation) (s .held .generation)) (placed-mem (i .place))
         (rw (eq-eqb (w .range) (s .range) a, h, eq-eqb (w .held .generation) (s .held .generation) d)) in
-        is-none (aheadIn s vs) (b .found) (b .is) f
+        is-none (aheadIn s vs) (b .0) (b .1 .0) f
 
     ahead-new : s .held .generation ≡ p .held .generation → isFault (aheadFault s (p ∷ vs)) ≡ true
     unfolding aheadIn
     ahead-new g =
-        let new : In p (p ∷ vs) = here in
+        let new : Mem p (p ∷ vs) = here in
         let b = lowest-below (λ v. v .index)
         (λ v. eqb (v .range) (s .range) && ltb (s .index) (v .index) && eqb (v .held .generation) (s .held .generation)) new
         (rw (eq-eqb (p .range) (s .range) (sym r), lt-ltb (s .index) (p .index) l, eq-eqb (p .held .generation) (s .held .generation) (sym g))) in
-        ahead-fault s (p ∷ vs) ∙ ap isSome (b .is)
+        ahead-fault s (p ∷ vs) ∙ ap isSome (b .1 .0)
 
     ahead-old : (s .held .generation ≡ p .held .generation → ⊥) → aheadFault s (p ∷ vs) ≡ aheadFault s vs
     ahead-old n =
@@ -271,7 +123,7 @@ module _ (p : Entry) (vs : List Entry) (s : Entry) (k : statementFault vs s ≡ 
         let d : heldEqb (v .held) (s .held) ≡ false =
         ⊎-elim (λ e. never t (equal-ltb (held-same (v .held) (s .held) e .generation))) (λ e. e) (decide (heldEqb (v .held) (s .held))) in
         let a : aheadFault s vs ≡ Clear = rw (d, t) at c in
-        some-none (aheadIn s vs) (sym (ahead-fault s vs) ∙ ap isFault a)
+        none-of (aheadIn s vs) (sym (ahead-fault s vs) ∙ ap isFault a)
 
     ahead-first : s .held .generation ≡ p .held .generation → aheadIn s vs ≡ none → aheadFault s (p ∷ vs) ≡ fault 2 (s .range ∷ s .index ∷ p .index ∷ [])
     unfolding aheadIn lowestOf
@@ -289,7 +141,7 @@ module _ (p : Entry) (vs : List Entry) (s : Entry) (k : statementFault vs s ≡ 
         ⊎-elim (λ e. never t (equal-ltb (held-same (v .held) (s .held) e .generation))) (λ e. e) (decide (heldEqb (v .held) (s .held))) in
         rw (d, t) (ahead-first g (old-ahead v c t))
 
-    pub behind-case : fallsBehind p vs s ≡ true → statementFault (p ∷ vs) s ≡ fault 2 (s .range ∷ s .index ∷ p .index ∷ [])
+    behind-case : fallsBehind p vs s ≡ true → statementFault (p ∷ vs) s ≡ fault 2 (s .range ∷ s .index ∷ p .index ∷ [])
     unfolding fallsBehind
     behind-case t =
         let a = and-left _ (holds (λ (v : Entry). ltb (v .held .generation) (s .held .generation)) (atIn (s .range) (s .index) vs)) t in
@@ -314,12 +166,12 @@ module _ (p : Entry) (vs : List Entry) (s : Entry) (k : statementFault vs s ≡ 
     unfolding nextIn atIn
     between none e h = never h refl
     between (some n) e h =
-        let i = lowest-is (λ v. v .index) (λ v. eqb (v .range) (p .range) && ltb (p .index) (v .index)) n vs e in
-        let a : n .range ≡ s .range = eqb-true _ _ (and-left (eqb (n .range) (p .range)) (ltb (p .index) (n .index)) (i .passes)) ∙ sym r in
-        let m : p .index < n .index = ltb-true _ _ (and-right (eqb (n .range) (p .range)) (ltb (p .index) (n .index)) (i .passes)) in
-        let b = greatest-above (λ v. v .index) (λ v. eqb (v .range) (s .range) && leb (v .index) (s .index)) (i .there)
+        let i = lowest-meets (λ v. v .index) (λ v. eqb (v .range) (p .range) && ltb (p .index) (v .index)) {xs = vs} {r = n} e in
+        let a : n .range ≡ s .range = eqb-true _ _ (and-left (eqb (n .range) (p .range)) (ltb (p .index) (n .index)) (i .place .passes)) ∙ sym r in
+        let m : p .index < n .index = ltb-true _ _ (and-right (eqb (n .range) (p .range)) (ltb (p .index) (n .index)) (i .place .passes)) in
+        let b = greatest-above (λ v. v .index) (λ v. eqb (v .range) (s .range) && leb (v .index) (s .index)) (placed-mem (i .place))
         (rw (eq-eqb (n .range) (s .range) a) h) in
-        at-new p vs s passes-at ∙ rw (b .is, le-ltb (b .found .index) (p .index) (omega (arith, b .bound)))
+        at-new p vs s passes-at ∙ rw (b .1 .0, le-ltb (b .0 .index) (p .index) (omega (arith, b .1 .1)))
 
     -- none between: it is judged by the new value
     next-go : (o : Option Entry) → atIn (s .range) (s .index) vs ≡ o → holds (λ (v : Entry). leb (v .index) (s .index)) (nextIn p vs) ≡ false
@@ -327,22 +179,22 @@ module _ (p : Entry) (vs : List Entry) (s : Entry) (k : statementFault vs s ≡ 
     unfolding nextIn atIn
     next-go none e h = refl
     next-go (some y) e h =
-        let i = greatest-is (λ v. v .index) (λ v. eqb (v .range) (s .range) && leb (v .index) (s .index)) y vs e in
-        let a : y .range ≡ p .range = eqb-true _ _ (and-left (eqb (y .range) (s .range)) (leb (y .index) (s .index)) (i .passes)) ∙ r in
-        let m : y .index ≤ s .index = leb-true _ _ (and-right (eqb (y .range) (s .range)) (leb (y .index) (s .index)) (i .passes)) in
+        let i = greatest-meets (λ v. v .index) (λ v. eqb (v .range) (s .range) && leb (v .index) (s .index)) {xs = vs} {r = y} e in
+        let a : y .range ≡ p .range = eqb-true _ _ (and-left (eqb (y .range) (s .range)) (leb (y .index) (s .index)) (i .place .passes)) ∙ r in
+        let m : y .index ≤ s .index = leb-true _ _ (and-right (eqb (y .range) (s .range)) (leb (y .index) (s .index)) (i .place .passes)) in
         let lower : y .index < p .index = elim (decLt (y .index) (p .index)) [
           | yes z ↦ z
           | no z ↦ elim (decLt (p .index) (y .index)) [
             | yes w ↦
-                let b = lowest-below (λ v. v .index) (λ v. eqb (v .range) (p .range) && ltb (p .index) (v .index)) (i .there)
+                let b = lowest-below (λ v. v .index) (λ v. eqb (v .range) (p .range) && ltb (p .index) (v .index)) (placed-mem (i .place))
                 (rw (eq-eqb (y .range) (p .range) a, lt-ltb (p .index) (y .index) w)) in
                 never
-                (holds-some (λ v. leb (v .index) (s .index)) (nextIn p vs) (b .found) (b .is)
-                ∙ le-leb (b .found .index) (s .index) (omega (arith, b .bound)))
+                (holds-some (λ v. leb (v .index) (s .index)) (nextIn p vs) (b .0) (b .1 .0)
+                ∙ le-leb (b .0 .index) (s .index) (omega (arith, b .1 .1)))
                 h
             | no w ↦
                 never
-                (any-in (samePlace p) (i .there)
+                (anyOf-mem (samePlace p) (placed-mem (i .place))
                 (rw (eq-eqb (p .range) (y .range) (sym a), eq-eqb (p .index) (y .index) (omega arith))))
                 free
           ]
@@ -369,7 +221,7 @@ module _ (p : Entry) (vs : List Entry) (s : Entry) (k : statementFault vs s ≡ 
     goes-against = against-go (holds (λ (v : Entry). leb (v .index) (s .index)) (nextIn p vs)) refl
 
     -- the case of one that goes against the new value: that of a statement judged by it
-    pub against-case : goesAgainst p vs s ≡ true → statementFault (p ∷ vs) s ≡ differsFault s vs p
+    against-case : goesAgainst p vs s ≡ true → statementFault (p ∷ vs) s ≡ differsFault s vs p
     unfolding goesAgainst differsFault faultBy
     against-case t =
         let a = and-left _ (not (ltb (p .held .generation) (s .held .generation)) || isSome (aheadIn s vs)) t in
@@ -385,7 +237,7 @@ module _ (p : Entry) (vs : List Entry) (free : anyOf (samePlace p) vs ≡ false)
   new-go true true e q = falls-behind p vs s k (eqb-true _ _ e) (ltb-true _ _ q)
   new-go true false e q = goes-against p vs s k (eqb-true _ _ e) (ltb-false _ _ q) free
 
-  pub new-faulty : isFault (statementFault (p ∷ vs) s) ≡ newFaulty p vs s
+  new-faulty : isFault (statementFault (p ∷ vs) s) ≡ newFaulty p vs s
   unfolding newFaulty
   new-faulty = new-go (eqb (s .range) (p .range)) (ltb (s .index) (p .index)) refl refl
 
@@ -395,7 +247,8 @@ module _ (p : Entry) (vs : List Entry) (free : anyOf (samePlace p) vs ≡ false)
   case-go false e r t = against-case p vs s k r (ltb-false _ _ e) free t
 
   -- and with this case
-  pub new-case : newFaulty p vs s ≡ true → statementFault (p ∷ vs) s ≡ cond (ltb (s .index) (p .index)) (fault 2 (s .range ∷ s .index ∷ p .index ∷ [])) (differsFault s vs p)
+  pub new-case : newFaulty p vs s ≡ true
+      → statementFault (p ∷ vs) s ≡ cond (ltb (s .index) (p .index)) (fault 2 (s .range ∷ s .index ∷ p .index ∷ [])) (differsFault s vs p)
   unfolding newFaulty
   new-case t =
       case-go (ltb (s .index) (p .index)) refl
@@ -405,17 +258,16 @@ module _ (p : Entry) (vs : List Entry) (free : anyOf (samePlace p) vs ≡ false)
 -- agreement with a put at a place where none stood: the earliest statement that becomes faulty, where there is one
 module _ (x : TraceRecord) (h : History) (k : agreement h ≡ Clear) (i : ℕ) (role : roleOf x h ≡ puts i)
     (free : anyOf (samePlace (entryAt i x h)) (standing h) ≡ false) where
-  pub agreement-put :
+  agreement-put :
       agreement (x ∷ h)
       ≡ caseOf (statementFault (entryAt i x h ∷ standing h)) (earliestOf (newFaulty (entryAt i x h) (standing h)) (stated h))
   agreement-put =
       let p = entryAt i x h in
-      agreement-cons x h
-      ∙ rw (role, puts-clear x h k, none-differs p (standing h) free, free)
-      (earliest-fault (statementFault (p ∷ standing h)) (stated h)
+      agreement-new x h k i role free
+      ∙ earliestCase-is (statementFault (p ∷ standing h)) (stated h)
       ∙ ap (caseOf (statementFault (p ∷ standing h)))
-      (earliest-agree (statementFault (standing h)) (statementFault (standing h)) (λ s. isFault (statementFault (p ∷ standing h) s)) (newFaulty p (standing h))
-      (new-faulty p (standing h) free) (stated h) (stated-clear x h k)))
+      (earliest-agree (statementFault (standing h)) (λ s. isFault (statementFault (p ∷ standing h) s)) (newFaulty p (standing h))
+      (new-faulty p (standing h) free) (stated h) (stated-clear h k))
 
   -- what it is where one was found
   pub agreement-found : (s : Entry) → earliestOf (newFaulty (entryAt i x h) (standing h)) (stated h) ≡ some s
@@ -425,27 +277,8 @@ module _ (x : TraceRecord) (h : History) (k : agreement h ≡ Clear) (i : ℕ) (
       let p = entryAt i x h in
       agreement-put
       ∙ ap (caseOf (statementFault (p ∷ standing h))) e
-      ∙ new-case p (standing h) free s (found-clear (statementFault (standing h)) (newFaulty p (standing h)) (stated h) s (stated-clear x h k) e)
-      (earliest-passes (newFaulty p (standing h)) (stated h) s e)
+      ∙ new-case p (standing h) free s (found-clear (statementFault (standing h)) (newFaulty p (standing h)) (stated h) s (stated-clear h k) e)
+      (earliest-meets (newFaulty p (standing h)) {xs = stated h} {r = s} e .place .passes)
 
   pub agreement-none : earliestOf (newFaulty (entryAt i x h) (standing h)) (stated h) ≡ none → agreement (x ∷ h) ≡ Clear
   agreement-none e = agreement-put ∙ ap (caseOf (statementFault (entryAt i x h ∷ standing h))) e
-
--- a put at a place where a value stands
-module _ (x : TraceRecord) (h : History) (k : agreement h ≡ Clear) (i : ℕ) (role : roleOf x h ≡ puts i) where
-  pub agreement-taken : (v : Entry) → latestOf (samePlace (entryAt i x h)) (standing h) ≡ some v
-      → agreement (x ∷ h) ≡ faultIf (not (heldEqb (v .held) (heldBy x))) (fault 1 (x .a ∷ i ∷ []))
-  unfolding agreementAt putFault
-  agreement-taken v e =
-      let t : anyOf (samePlace (entryAt i x h)) (standing h) ≡ true = any-latest (samePlace (entryAt i x h)) (standing h) ∙ ap isSome e in
-      agreement-more x h k ∙ rw (role, t, e)
-
--- a statement, and any other record
-module _ (x : TraceRecord) (h : History) (k : agreement h ≡ Clear) where
-  pub agreement-states : (i : ℕ) → roleOf x h ≡ states i → agreement (x ∷ h) ≡ statementFault (standing h) (entryAt i x h)
-  unfolding agreementAt
-  agreement-states i e = agreement-more x h k ∙ rw e
-
-  pub agreement-neither : roleOf x h ≡ neither → agreement (x ∷ h) ≡ Clear
-  unfolding agreementAt
-  agreement-neither e = agreement-more x h k ∙ rw e

@@ -1,6 +1,6 @@
 -- Laws of the walk along a range's statements: the earliest that becomes faulty by a new value. Assumes nothing.
 use mathlib.Core.Path.{_≡_, refl, sym, ap, _∙_}
-use mathlib.Core.Bool.{Bool, true, false, cond, _&&_}
+use mathlib.Core.Bool.{Bool, true, false, cond, _&&_, and-true}
 use mathlib.Core.List.{List, [], _∷_}
 use mathlib.Core.Option.{Option, none, some}
 use Prim.Native.Nat.{ℕ, zero, suc, _+_, _-_, _≤_, _<_}
@@ -12,19 +12,20 @@ use Rattle.rules.specs.declared.Case.{Case}
 use Rattle.rules.specs.declared.Case.the-variants.{Clear}
 use Rattle.rules.specs.History.{History, orElse, anyOf, earliestOf}
 use Rattle.rules.specs.Cases.{fault}
-use Rattle.rules.specs.Descriptors.{Entry, puts, roleOf, heldBy, entryAt, samePlace, tellsStated, standing, stated, aheadFault, differsFault, agreement}
+use Rattle.rules.specs.Descriptors.{Entry, puts, roleOf, heldBy, entryAt, samePlace, tellsStated, standing, stated, agreement}
+use Rattle.rules.proofs.Best.{greatest-agree, lowest-agree}
 use Rattle.history.specs.Logs.{bytesAt, recordAt, hist}
 use Rattle.history.proofs.Logs.{record-bytes}
 use Rattle.history.proofs.Chains.{In}
-use Rattle.rules.proofs.Booleans.{and-left}
+use Rattle.record.proofs.Booleans.{and-left}
 use Rattle.history.proofs.Queries.{ignores-then, earliest-ignores, earliest-turns}
 use Rattle.history.proofs.Walks.{told-found, told-outside, told-end}
 use Rattle.history.specs.Buckets.{bucketBy}
-use Rattle.descriptors.specs.Index.{statedBucket, put, statedIndex, statedEntry, statement}
-use Rattle.descriptors.specs.Answers.{upTo, greatestUpTo, above, lowestAbove, differsCase, becomesFaulty, newCase}
+use Rattle.descriptors.specs.Columns.{statedBucket, put, statedIndex, statedEntry, statement}
+use Rattle.descriptors.specs.Answers.{upTo, greatestUpTo, above, lowestAbove, becomesFaulty, newCase}
 use Rattle.descriptors.specs.Agreement.{nextIn, lastIn, aheadIn, fallsBehind, goesAgainst, newFaulty}
-use Rattle.descriptors.proofs.Lists.{greatest-agree, lowest-agree}
 use Rattle.descriptors.proofs.Roles.{in-stated}
+use Rattle.descriptors.proofs.Judged.{differs-is}
 use Rattle.descriptors.proofs.Walks.{statement-suc}
 use Rattle.descriptors.proofs.Agreement.{agreement-found, agreement-none}
 
@@ -85,16 +86,13 @@ unfolding newFaulty
 faulty-range p vs v t = eqb-true _ _ (and-left (eqb (v .range) (p .range)) (cond (ltb (v .index) (p .index)) (fallsBehind p vs v) (goesAgainst p vs v)) t)
 
 -- what the walks before it give
-and-all : (b : Bool) → b && true ≡ b
-and-all true = refl
-and-all false = refl
-
 pub next-is : (x : TraceRecord) (h : History) (index : ℕ) (vs : List Entry) {ra : ℕ} {o : Option Entry} → ra ≡ x .a → o ≡ lowestAbove ra index true 0 vs
     → o ≡ nextIn (entryAt index x h) vs
 unfolding nextIn
 next-is x h index vs {ra} a e =
     e ∙ ap (λ (r : ℕ). lowestAbove r index true 0 vs) a
-    ∙ lowest-agree (λ v. v .index) (above (x .a) index true 0) (λ v. eqb (v .range) (x .a) && ltb index (v .index)) (λ v. and-all (eqb (v .range) (x .a) && ltb index (v .index))) vs
+    ∙ lowest-agree (λ v. v .index) (above (x .a) index true 0) (λ v. eqb (v .range) (x .a) && ltb index (v .index))
+    (λ v. and-true (eqb (v .range) (x .a) && ltb index (v .index))) vs
 
 pub last-is : (x : TraceRecord) (h : History) (index : ℕ) (vs : List Entry) {ra rd : ℕ} {o : Option Entry} → ra ≡ x .a → rd ≡ x .d
     → o ≡ greatestUpTo ra true 0 false rd vs → o ≡ lastIn (entryAt index x h) vs
@@ -102,7 +100,7 @@ unfolding lastIn heldBy
 last-is x h index vs {ra} {rd} a d e =
     e ∙ rw (a, d)
     (greatest-agree (λ v. v .index) (upTo (x .a) true 0 false (x .d)) (λ v. eqb (v .range) (x .a) && eqb (v .held .generation) (x .d))
-    (λ v. ap (λ (b : Bool). b && eqb (v .held .generation) (x .d)) (and-all (eqb (v .range) (x .a)))) vs)
+    (λ v. ap (λ (b : Bool). b && eqb (v .held .generation) (x .d)) (and-true (eqb (v .range) (x .a)))) vs)
 
 -- ---- the case of a new value
 
@@ -113,17 +111,14 @@ statement-some : (log : List ℕ) (n : ℕ) {o : Option Entry} → (n ≡ 0 → 
 statement-some log zero z e = absurd (z refl)
 statement-some log (suc k) z e = let q : suc k - 1 ≡ k = omega arith in sym e ∙ ap (λ (j : ℕ). some (statedEntry log j)) (sym q)
 
-differs-is : (s : Entry) (vs : List Entry) (v : Entry) → differsFault s vs v ≡ differsCase (s .range) (s .index) (v .held) (s .held) vs
-unfolding differsFault aheadFault
-differs-is s vs v = refl
-
 module _ (log : List ℕ) (n : ℕ) (x : TraceRecord) (h : History) (index : ℕ) (role : roleOf x h ≡ puts index)
     (free : anyOf (samePlace (entryAt index x h)) (standing h) ≡ false) (k : agreement h ≡ Clear)
     (e : statement log n ≡ earliestOf (newFaulty (entryAt index x h) (standing h)) (stated h)) where
   pub put-clear : n ≡ 0 → Clear ≡ agreement (x ∷ h)
   put-clear z = sym (agreement-none x h k index role free (statement-none log n z e))
 
-  pub put-faulty : {bytes : List ℕ} {r : Case} → (n ≡ 0 → ⊥) → bytes ≡ bytesAt (n - 1) log → r ≡ newCase index x (decode bytes) (standing h) → r ≡ agreement (x ∷ h)
+  pub put-faulty : {bytes : List ℕ} {r : Case} → (n ≡ 0 → ⊥) → bytes ≡ bytesAt (n - 1) log → r ≡ newCase index x (decode bytes) (standing h)
+      → r ≡ agreement (x ∷ h)
   put-faulty z b q =
       q ∙ ap (λ (y : TraceRecord). newCase index x y (standing h)) (record-bytes log (n - 1) b)
       ∙ ap (cond (ltb (statedIndex (recordAt log (n - 1))) index) (fault 2 (recordAt log (n - 1) .a ∷ statedIndex (recordAt log (n - 1)) ∷ index ∷ [])))

@@ -12,16 +12,17 @@ use Rattle.rules.specs.declared.Case.{Case}
 use Rattle.rules.specs.declared.Case.the-variants.{Clear}
 use Rattle.rules.specs.History.{History, isSome, holds, anyOf, latestOf}
 use Rattle.rules.specs.Cases.{fault, faultIf, caseOf}
-use Rattle.rules.specs.Descriptors.{Entry, puts, roleOf, samePlace, agreement, heldBy, heldEqb, entryAt, standing, atIn, aheadFault, differsFault, statementFault, firstAtGenerationIn, firstAtGeneration}
+use Rattle.rules.specs.Descriptors.{Entry, puts, roleOf, samePlace, agreement, heldBy, heldEqb, entryAt, standing, atIn, aheadFault, differsFault}
+use Rattle.rules.specs.Descriptors.{statementFault, firstAtGenerationIn, firstAtGeneration}
+use Rattle.rules.proofs.Placed.{placed-mem, earliest-passing, any-latest}
+use Rattle.rules.proofs.Best.{greatest-meets, lowest-meets}
+use Rattle.rules.proofs.Agreement.{agreement-taken}
 use Rattle.history.specs.Logs.{bytesAt, recordAt}
 use Rattle.history.proofs.Logs.{record-bytes}
-use Rattle.rules.proofs.Booleans.{and-left, and-right, both, none-some}
-use Rattle.descriptors.specs.Index.{putEntry, put}
+use Rattle.record.proofs.Booleans.{and-left, and-right, both, none-some}
+use Rattle.descriptors.specs.Columns.{putEntry, put}
 use Rattle.descriptors.specs.Answers.{atPlace, upTo, greatestUpTo, above, lowestAbove, aheadCase, differsCase}
-use Rattle.descriptors.proofs.Lists.{any-in, greatest-is, lowest-is, any-latest}
-use Rattle.descriptors.proofs.Agreement.{agreement-taken}
 use Rattle.descriptors.proofs.Found.{at-up-to}
-use Rattle.descriptors.proofs.Walks.{earliest-some}
 
 -- a number is none, or a record's
 pub put-none : (log : List ℕ) (n : ℕ) {o : Option Entry} → n ≡ 0 → put log n ≡ o → o ≡ none
@@ -35,7 +36,7 @@ pub put-is-some : (log : List ℕ) (n : ℕ) {o : Option Entry} → put log n �
 put-is-some log zero e = ap isSome e
 put-is-some log (suc k) e = ap not (ne-eqb (suc k) 0 (λ z. omega arith)) ∙ ap isSome e
 
-pub found-some-at : (log : List ℕ) (n : ℕ) {o : Option Entry} → (n ≡ 0 → ⊥) → put log n ≡ o → o ≡ some (putEntry log (n - 1))
+found-some-at : (log : List ℕ) (n : ℕ) {o : Option Entry} → (n ≡ 0 → ⊥) → put log n ≡ o → o ≡ some (putEntry log (n - 1))
 found-some-at log n z e = sym e ∙ put-some log n z
 
 -- what is ahead of a statement
@@ -43,7 +44,8 @@ module _ (log : List ℕ) (n range index generation : ℕ) (vs : List Entry) (e 
   pub ahead-none : n ≡ 0 → Clear ≡ aheadCase range index generation vs
   ahead-none z = sym (ap (caseOf (λ (v : Entry). fault 2 (range ∷ index ∷ v .index ∷ []))) (put-none log n z e))
 
-  pub ahead-some : {z : ℕ} {r : Case} → (n ≡ 0 → ⊥) → z ≡ recordAt log (n - 1) .b → r ≡ fault 2 (range ∷ index ∷ z ∷ []) → r ≡ aheadCase range index generation vs
+  pub ahead-some : {z : ℕ} {r : Case} → (n ≡ 0 → ⊥) → z ≡ recordAt log (n - 1) .b → r ≡ fault 2 (range ∷ index ∷ z ∷ [])
+      → r ≡ aheadCase range index generation vs
   ahead-some z b q =
       q ∙ ap (λ (i : ℕ). fault 2 (range ∷ index ∷ i ∷ [])) b
       ∙ sym (ap (caseOf (λ (v : Entry). fault 2 (range ∷ index ∷ v .index ∷ []))) (found-some-at log n z e))
@@ -59,7 +61,8 @@ module _ (v s : TraceRecord) (index : ℕ) (vs : List Entry) (d : heldEqb (heldB
   unfolding heldBy
   differs-behind l ea q = q ∙ rw (d, le-ltb (v .d) (s .d) l, ea)
 
-differs-is : (s : Entry) (vs : List Entry) (v : Entry) → differsFault s vs v ≡ differsCase (s .range) (s .index) (v .held) (s .held) vs
+-- the case of the rules is the one that is told by parts
+pub differs-is : (s : Entry) (vs : List Entry) (v : Entry) → differsFault s vs v ≡ differsCase (s .range) (s .index) (v .held) (s .held) vs
 unfolding differsFault aheadFault
 differs-is s vs v = refl
 
@@ -94,17 +97,15 @@ module _ (range generation : ℕ) (vs : List Entry) (f : firstAtGenerationIn ran
   unfolding firstAtGenerationIn
   taken-go index none e = refl
   taken-go index (some z) e =
-      let i = lowest-is (λ v. v .index) (above range index false generation) z vs e in
-      let a : eqb (z .range) range && ltb index (z .index) ≡ true = and-left _ (eqb (z .held .generation) generation) (i .passes) in
+      let i = lowest-meets (λ v. v .index) (above range index false generation) {xs = vs} {r = z} e in
+      let a : eqb (z .range) range && ltb index (z .index) ≡ true = and-left _ (eqb (z .held .generation) generation) (i .place .passes) in
       let t : eqb (z .range) range && eqb (z .held .generation) generation ≡ true =
       rw (and-left (eqb (z .range) range) (ltb index (z .index)) a)
-      (and-right (eqb (z .range) range && ltb index (z .index)) (eqb (z .held .generation) generation) (i .passes)) in
-      let w = earliest-some (λ v. eqb (v .range) range && eqb (v .held .generation) generation) vs
-      (any-in (λ v. eqb (v .range) range && eqb (v .held .generation) generation) (i .there) t) in
-      let q : some (w .0) ≡ none = sym (w .1) ∙ f in
-      let y : _≡_ {A = ℕ} 0 1 = cc in absurd (omega arith)
+      (and-right (eqb (z .range) range && ltb index (z .index)) (eqb (z .held .generation) generation) (i .place .passes)) in
+      let w = earliest-passing (λ v. eqb (v .range) range && eqb (v .held .generation) generation) (placed-mem (i .place)) t in
+      none-some (sym f ∙ w .1)
 
-  pub none-taken : (index : ℕ) → lowestAbove range index false generation vs ≡ none
+  none-taken : (index : ℕ) → lowestAbove range index false generation vs ≡ none
   none-taken index = taken-go index (lowestAbove range index false generation vs) refl
 
 -- nor a greatest
@@ -113,12 +114,11 @@ module _ (range generation : ℕ) (vs : List Entry) (f : firstAtGenerationIn ran
   unfolding firstAtGenerationIn
   last-go none e = refl
   last-go (some z) e =
-      let i = greatest-is (λ v. v .index) (upTo range true 0 false generation) z vs e in
-      let a : eqb (z .range) range && true ≡ true = and-left _ (eqb (z .held .generation) generation) (i .passes) in
+      let i = greatest-meets (λ v. v .index) (upTo range true 0 false generation) {xs = vs} {r = z} e in
+      let a : eqb (z .range) range && true ≡ true = and-left _ (eqb (z .held .generation) generation) (i .place .passes) in
       let t : eqb (z .range) range && eqb (z .held .generation) generation ≡ true =
-      both (and-left (eqb (z .range) range) true a) (and-right (eqb (z .range) range && true) (eqb (z .held .generation) generation) (i .passes)) in
-      let w = earliest-some (λ v. eqb (v .range) range && eqb (v .held .generation) generation) vs
-      (any-in (λ v. eqb (v .range) range && eqb (v .held .generation) generation) (i .there) t) in
+      both (and-left (eqb (z .range) range) true a) (and-right (eqb (z .range) range && true) (eqb (z .held .generation) generation) (i .place .passes)) in
+      let w = earliest-passing (λ v. eqb (v .range) range && eqb (v .held .generation) generation) (placed-mem (i .place)) t in
       none-some (sym f ∙ w .1)
 
   none-last : greatestUpTo range true 0 false generation vs ≡ none
@@ -159,5 +159,6 @@ module _ (log : List ℕ) (n : ℕ) (x : TraceRecord) (h : History) (index : ℕ
     pub put-same : heldEqb (heldBy (decode bytes)) (heldBy x) ≡ true → Clear ≡ agreement (x ∷ h)
     put-same t = sym (against ∙ rw t)
 
-    pub put-differs : {ra : ℕ} {r : Case} → heldEqb (heldBy (decode bytes)) (heldBy x) ≡ false → ra ≡ x .a → r ≡ fault 1 (ra ∷ index ∷ 0 ∷ []) → r ≡ agreement (x ∷ h)
+    pub put-differs : {ra : ℕ} {r : Case} → heldEqb (heldBy (decode bytes)) (heldBy x) ≡ false → ra ≡ x .a → r ≡ fault 1 (ra ∷ index ∷ 0 ∷ [])
+        → r ≡ agreement (x ∷ h)
     put-differs t a q = q ∙ sym (against ∙ rw (t, a))

@@ -1,5 +1,5 @@
--- The laws that the proofs cite: the rules' ways of looking back, agreement with one more record.
-pub mod Lists
+-- The laws that the proofs cite: what a new value makes of agreement, what records put and state, the walks along the chains and
+-- where they stop, what their answers mean, and one more record in the columns.
 pub mod Agreement
 pub mod Roles
 pub mod Walks

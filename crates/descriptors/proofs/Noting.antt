@@ -1,6 +1,6 @@
 -- One more record in the columns of `Descriptors`: the chains that it belongs to, and the counts. Assumes nothing.
 use mathlib.Core.Path.{_≡_, refl, sym, ap, _∙_}
-use mathlib.Core.Bool.{Bool, true, false, cond, not, _&&_, _||_}
+use mathlib.Core.Bool.{Bool, true, false, cond, not, _&&_, _||_, Bool·not-not}
 use mathlib.Core.List.{List, [], _∷_}
 use mathlib.Core.Option.{Option, none, some}
 use mathlib.Core.Logic.{_⊎_, inl, inr}
@@ -12,22 +12,26 @@ use borrow.Author.Tests.{eq-eqb, ne-eqb}
 use Rattle.record.specs.declared.named.Node.{Node}
 use Rattle.record.specs.declared.named.Node.the-variants.{Marked, Missing}
 use Rattle.record.specs.Records.{TraceRecord}
-use Rattle.record.proofs.Keys.{never}
-use Rattle.rules.specs.History.{History, Tells, isKind, isSome, when, orElse, given, holds, anyOf, latestOf, earliestOf, addSome, addFirst, told, firsts}
-use Rattle.rules.specs.Descriptors.{Entry, Role, puts, states, neither, heldBy, roleOf, entryAt, putBy, statedBy, tellsPut, tellsStated, samePlace, standing, stated, statements, isEmpty, firstAtGenerationIn, firstAtGeneration}
+use Rattle.record.proofs.Booleans.{never}
+use Rattle.rules.specs.History.{History, Tells, isKind, isSome, when, given, holds, anyOf, latestOf, earliestOf, addSome, addFirst, told, firsts}
+use Rattle.rules.specs.Descriptors.{Entry, Role, puts, states, neither, heldBy, roleOf, entryAt, putBy, statedBy, tellsPut, tellsStated, samePlace, standing}
+use Rattle.rules.specs.Descriptors.{stated, statements, isEmpty, firstAtGenerationIn, firstAtGeneration}
+use Rattle.rules.proofs.Placed.{any-earliest, any-latest}
+use Rattle.rules.proofs.Roles.{puts-entry, states-entry, put-generation}
+use Rattle.rules.proofs.Standing.{standing-cons, stated-cons}
+use Rattle.history.specs.Places.{appliedHeads, appliedLinks, standingHeads, standingLinks, statedHeads, statedLinks, generationHeads, generationLinks, counts}
 use Rattle.history.specs.Columns.{Column, cellOf, Chained, clamp, Put}
 use Rattle.history.proofs.Cells.{cell-new, Same, put-apart, column-agrees, column-put, Zeros, column-clear}
 use Rattle.history.proofs.Chains.{clamped, chained-agrees, entered, not-entered, chained-clear}
-use Rattle.descriptors.specs.declared.index.Told.{Told}
 use Rattle.history.specs.Buckets.{bucketBy, bucketByTwo}
-use Rattle.descriptors.specs.Index.{newValue, firstValue, sameGeneration, appliedAt, appliedBucket, standingBucket, statedBucket, generationBucket, notBelow, isRising, countsOf, countsAfter, DescriptorsIndexed, put}
-use Rattle.descriptors.specs.Noted.{isMarked, markedBucket, EnteredIf, AllEntered, Telling, countsNext, Noted}
+use Rattle.descriptors.specs.declared.note.Told.{Told}
+use Rattle.descriptors.specs.Columns.{newValue, firstValue, sameGeneration, appliedAt, appliedBucket, standingBucket, statedBucket, generationBucket}
+use Rattle.descriptors.specs.Columns.{notBelow, isRising, countsOf, countsAfter, DescriptorsIndexed, put}
+use Rattle.descriptors.specs.Columns.{isMarked, markedBucket, EnteredIf, AllEntered, Telling, countsNext, ownColumns, DescriptorsNoted}
 use Rattle.descriptors.specs.Answers.{greatestUpTo}
-use Rattle.descriptors.proofs.Lists.{any-latest}
 use Rattle.descriptors.proofs.Rising.{counts-by, counts-bound, top-reaches}
 use Rattle.descriptors.proofs.Roles.{new-puts, first-new}
 use Rattle.descriptors.proofs.Judged.{put-is-some}
-use Rattle.descriptors.proofs.Agreement.{standing-cons, stated-cons}
 
 -- ---- what a record is told to be
 
@@ -66,7 +70,8 @@ module _ (x : TraceRecord) (h : History) (i : ℕ) (role : roleOf x h ≡ puts i
   rising-by f = rw (new-yes f)
 
   -- a put at a place that is taken
-  pub told-taken : {t : Told} → t ≡ record { puts = true; states = false; stands = false; first = false; rises = false } → anyOf (samePlace (entryAt i x h)) (standing h) ≡ true → Telling x h t
+  pub told-taken : {t : Told} → t ≡ record { puts = true; states = false; stands = false; first = false; rises = false }
+      → anyOf (samePlace (entryAt i x h)) (standing h) ≡ true → Telling x h t
   told-taken e f = rw e (record {
     puts = sym (ap isSome tells-put);
     states = sym (ap isSome tells-no);
@@ -91,21 +96,6 @@ module _ (x : TraceRecord) (h : History) (i : ℕ) (role : roleOf x h ≡ puts i
     rises = r ∙ sym (rising-by f);
   })
 
-some-go : (b a : Bool) (v : Entry) (o : Option Entry) → a ≡ isSome o → b || a ≡ isSome (orElse o (when b v))
-some-go true a v none e = refl
-some-go true a v (some w) e = refl
-some-go false a v none e = e
-some-go false a v (some w) e = e
-
-any-earliest : (p : Entry → Bool) (vs : List Entry) → anyOf p vs ≡ isSome (earliestOf p vs)
-unfolding anyOf earliestOf
-any-earliest p [] = refl
-any-earliest p (v ∷ vs) = some-go (p v) (anyOf p vs) v (earliestOf p vs) (any-earliest p vs)
-
-not-not : (b : Bool) → not (not b) ≡ b
-not-not true = refl
-not-not false = refl
-
 -- whether a first value of the generation was found
 pub first-free : (log : List ℕ) (m : ℕ) (x : TraceRecord) (h : History) (i : ℕ) {ra rd : ℕ} → ra ≡ x .a → rd ≡ x .d → put log m ≡ firstAtGeneration ra rd h
     → eqb m 0 ≡ not (anyOf (sameGeneration (entryAt i x h)) (standing h))
@@ -113,40 +103,34 @@ unfolding firstAtGeneration firstAtGenerationIn heldBy
 first-free log m x h i {ra} {rd} a d e =
     let q : isSome (earliestOf (λ v. eqb (v .range) ra && eqb (v .held .generation) rd) (standing h)) ≡ anyOf (sameGeneration (entryAt i x h)) (standing h) =
     rw (a, d) (sym (any-earliest (λ v. eqb (v .range) (x .a) && eqb (v .held .generation) (x .d)) (standing h))) in
-    sym (not-not (eqb m 0)) ∙ ap not (put-is-some log m e ∙ q)
+    sym (Bool·not-not (eqb m 0)) ∙ ap not (put-is-some log m e ∙ q)
 
 -- whether the greatest of the range is below
-pub top-below : (log : List ℕ) (m : ℕ) (x : TraceRecord) (h : History) (i : ℕ) {ra : ℕ} {r : Bool} → ra ≡ x .a → put log m ≡ greatestUpTo ra true 0 true 0 (standing h)
+pub top-below : (log : List ℕ) (m : ℕ) (x : TraceRecord) (h : History) (i : ℕ) {ra : ℕ} {r : Bool} → ra ≡ x .a
+    → put log m ≡ greatestUpTo ra true 0 true 0 (standing h)
     → r ≡ not (holds (λ v. leb i (v .index)) (put log m)) → r ≡ not (anyOf (notBelow (entryAt i x h)) (standing h))
 top-below log m x h i a e q =
     let w : holds (λ v. leb i (v .index)) (put log m) ≡ anyOf (notBelow (entryAt i x h)) (standing h) = rw (e, a) (top-reaches (entryAt i x h) (standing h)) in
     q ∙ ap not w
 
-pub told-states : (x : TraceRecord) (h : History) (i : ℕ) {t : Told} → roleOf x h ≡ states i → t ≡ record { puts = false; states = true; stands = false; first = false; rises = false } → Telling x h t
+pub told-states : (x : TraceRecord) (h : History) (i : ℕ) {t : Told} → roleOf x h ≡ states i
+    → t ≡ record { puts = false; states = true; stands = false; first = false; rises = false } → Telling x h t
 unfolding newValue firstValue isRising
 told-states x h i role e = rw e (record { puts = rw role; states = rw role; stands = rw role; first = rw role; rises = rw role })
 
-pub told-neither : (x : TraceRecord) (h : History) {t : Told} → roleOf x h ≡ neither → t ≡ record { puts = false; states = false; stands = false; first = false; rises = false } → Telling x h t
+pub told-neither : (x : TraceRecord) (h : History) {t : Told} → roleOf x h ≡ neither
+    → t ≡ record { puts = false; states = false; stands = false; first = false; rises = false } → Telling x h t
 unfolding newValue firstValue isRising
 told-neither x h role e = rw e (record { puts = rw role; states = rw role; stands = rw role; first = rw role; rises = rw role })
 
 -- ---- the buckets of a record, by what it is told to be
 
-range-go : (role : Role) (x : TraceRecord) (h : History) (v : Entry) → putBy role x h ≡ some v → v .range ≡ x .a
-range-go (puts i) x h v e = let w : entryAt i x h ≡ v = cc in sym (ap (λ (u : Entry). u .range) w)
-range-go (states i) x h v e = let z : _≡_ {A = ℕ} 0 1 = cc in absurd (omega arith)
-range-go neither x h v e = let z : _≡_ {A = ℕ} 0 1 = cc in absurd (omega arith)
+module _ (x : TraceRecord) (h : History) {v : Entry} where
+  put-range : tellsPut x h ≡ some v → v .range ≡ x .a
+  put-range e = ap (λ (u : Entry). u .range) (puts-entry x h e)
 
-held-go : (role : Role) (x : TraceRecord) (h : History) (v : Entry) → putBy role x h ≡ some v → v .held .generation ≡ x .d
-unfolding heldBy
-held-go (puts i) x h v e = let w : entryAt i x h ≡ v = cc in sym (ap (λ (u : Entry). u .held .generation) w)
-held-go (states i) x h v e = let z : _≡_ {A = ℕ} 0 1 = cc in absurd (omega arith)
-held-go neither x h v e = let z : _≡_ {A = ℕ} 0 1 = cc in absurd (omega arith)
-
-stated-range : (role : Role) (x : TraceRecord) (h : History) (v : Entry) → statedBy role x h ≡ some v → v .range ≡ x .a
-stated-range (puts i) x h v e = let z : _≡_ {A = ℕ} 0 1 = cc in absurd (omega arith)
-stated-range (states i) x h v e = let w : entryAt i x h ≡ v = cc in sym (ap (λ (u : Entry). u .range) w)
-stated-range neither x h v e = let z : _≡_ {A = ℕ} 0 1 = cc in absurd (omega arith)
+  stated-range : tellsStated x h ≡ some v → v .range ≡ x .a
+  stated-range e = ap (λ (u : Entry). u .range) (states-entry x h e)
 
 when-go : (o : Option Entry) (f : Entry → ℕ) (b : ℕ) → ((v : Entry) → o ≡ some v → f v ≡ b) → given (λ v. some (f v)) o ≡ when (isSome o) b
 when-go none f b e = refl
@@ -157,13 +141,13 @@ module _ (cap : ℕ) (x : TraceRecord) (h : History) where
   unfolding standingBucket
   standing-when =
       when-go (newValue x h) (λ v. bucketBy cap (v .range)) (bucketBy cap (x .a))
-      (λ v e. ap (bucketBy cap) (range-go (roleOf x h) x h v (new-puts x h e)))
+      (λ v e. ap (bucketBy cap) (put-range x h (new-puts x h e)))
 
   stated-when : statedBucket cap x h ≡ when (isSome (tellsStated x h)) (bucketBy cap (x .a))
   unfolding statedBucket
   stated-when =
       when-go (tellsStated x h) (λ v. bucketBy cap (v .range)) (bucketBy cap (x .a))
-      (λ v e. ap (bucketBy cap) (stated-range (roleOf x h) x h v e))
+      (λ v e. ap (bucketBy cap) (stated-range x h e))
 
   generation-when : generationBucket cap x h ≡ when (isSome (firstValue x h)) (bucketByTwo cap (x .a) (x .d))
   unfolding generationBucket
@@ -171,8 +155,8 @@ module _ (cap : ℕ) (x : TraceRecord) (h : History) where
       when-go (firstValue x h) (λ v. bucketByTwo cap (v .range) (v .held .generation)) (bucketByTwo cap (x .a) (x .d))
       (λ v e.
       let p : tellsPut x h ≡ some v = new-puts x h (first-new x h e) in
-      let a : v .range ≡ x .a = range-go (roleOf x h) x h v p in
-      let d : v .held .generation ≡ x .d = held-go (roleOf x h) x h v p in
+      let a : v .range ≡ x .a = put-range x h p in
+      let d : v .held .generation ≡ x .d = put-generation x h p in
       rw (a, d))
 
   applied-go : (n : Node) → appliedAt cap x n ≡ when (isMarked n && (isKind 1 x || isKind 3 x || isKind 4 x)) (markedBucket cap x n)
@@ -223,14 +207,14 @@ word-rest c true l = omega arith
 word-rest c false l = omega arith
 
 pub counts-some : (cap : ℕ) (work : List ℕ) (h : History) (n : ℕ) {r : ℕ} → length h ≡ n → (n ≡ 0 → ⊥) → n ≤ cap → cap ≤ 4096 → DescriptorsIndexed cap h work
-    → r ≡ clamp (getD work (8 * cap + (n - 1)) 0) 24577 → r % 16384 ≡ countsOf h
+    → r ≡ clamp (getD work (counts * cap + (n - 1)) 0) 24577 → r % 16384 ≡ countsOf h
 counts-some cap work [] n e z l m k q = absurd (z (omega (arith, e)))
 counts-some cap work (x ∷ h) n e z l m k q =
     let p : length h ≡ n - 1 = omega (arith, e) in
     let j : n - 1 < cap = omega arith in
     let w : countsOf (x ∷ h) ≤ 8193 = omega (arith, counts-bound (x ∷ h), e) in
     ap (λ (w : ℕ). w % 16384)
-    (q ∙ clamped (getD work (8 * cap + (n - 1)) 0) (countsAfter x h) 24577
+    (q ∙ clamped (getD work (counts * cap + (n - 1)) 0) (countsAfter x h) 24577
     (k .counts .word (n - 1) j ∙ ap (cellOf countsAfter (x ∷ h)) (sym p) ∙ cell-new countsAfter x h)
     (word-bound (countsOf (x ∷ h)) (isRising x h) w))
     ∙ word-rest (countsOf (x ∷ h)) (isRising x h) w
@@ -253,7 +237,7 @@ counts-empty h e = rw (e, counts-by h) (rest-go (length (stated h)) (eqb (length
 
 -- ---- the chains
 
-pub length-if : (yes : Bool) {work work′ : List ℕ} {heads links n b : ℕ} → EnteredIf yes work work′ heads links n b → length work′ ≡ length work
+length-if : (yes : Bool) {work work′ : List ℕ} {heads links n b : ℕ} → EnteredIf yes work work′ heads links n b → length work′ ≡ length work
 length-if true e = e .is .len
 length-if false e = ap length (e .is)
 
@@ -271,13 +255,15 @@ module _ {work work′ : List ℕ} {heads links n b cap : ℕ} (yes : Bool) (e :
   same-if base u (inr v) = record { word = λ k w. word-if (base + k) (λ z. omega arith) (λ z. omega arith) }
 
   -- and so is a chain
-  chain-if : {f : Tells ℕ} {h : History} (heads2 links2 : ℕ) → links ≡ heads + cap → links2 ≡ heads2 + cap → (heads2 + 2 * cap ≤ heads) ⊎ (heads + 2 * cap ≤ heads2)
+  chain-if : {f : Tells ℕ} {h : History} (heads2 links2 : ℕ) → links ≡ heads + cap → links2 ≡ heads2 + cap
+      → (heads2 + 2 * cap ≤ heads) ⊎ (heads + 2 * cap ≤ heads2)
       → Chained f heads2 links2 cap h work → Chained f heads2 links2 cap h work′
   chain-if heads2 links2 u v (inl w) c = chained-agrees (same-if heads2 u (inl (omega arith))) (same-if links2 u (inl (omega arith))) c
   chain-if heads2 links2 u v (inr w) c = chained-agrees (same-if heads2 u (inr (omega arith))) (same-if links2 u (inr (omega arith))) c
 
 -- the record is entered where it has a bucket
-step-if : {f : Tells ℕ} {heads links cap n b : ℕ} {h : History} {x : TraceRecord} {work work′ : List ℕ} (yes : Bool) → f x h ≡ when yes b → length h ≡ n → n < cap → b < cap
+step-if : {f : Tells ℕ} {heads links cap n b : ℕ} {h : History} {x : TraceRecord} {work work′ : List ℕ} (yes : Bool) → f x h ≡ when yes b → length h ≡ n
+    → n < cap → b < cap
     → heads + cap ≤ links → EnteredIf yes work work′ heads links n b → Chained f heads links cap h work → Chained f heads links cap (x ∷ h) work′
 step-if true e p l m u w c = entered p l m u e (w .is) c
 step-if {f} {heads} {links} {cap} {h = h} {x = x} false e p l m u w c = rw (w .is) (not-entered e c)
@@ -290,8 +276,8 @@ entered-at t p q e = rw (p, q) at e
 
 module _ (work work′ w4 : List ℕ) (count cap : ℕ) (x : TraceRecord) (t : Told) (nodes ranges generations after old : ℕ) (applied : Bool)
     (l : count < cap) (nl : nodes < cap) (rl : ranges < cap) (gl : generations < cap)
-    (a : AllEntered work w4 count cap nodes applied ranges (t .stands) (t .states) generations (t .first)) (p : Put w4 work′ (8 * cap + count) after) where
-  word : (j : ℕ) → 9 * cap ≤ j → getD work′ j 0 ≡ getD work j 0
+    (a : AllEntered work w4 count cap nodes applied ranges (t .stands) (t .states) generations (t .first)) (p : Put w4 work′ (counts * cap + count) after) where
+  word : (j : ℕ) → ownColumns * cap ≤ j → getD work′ j 0 ≡ getD work j 0
   word j h =
       p .others j (λ z. omega arith)
       ∙ word-if (t .first) (a .by-generation) l gl j (λ z. omega arith) (λ z. omega arith)
@@ -304,11 +290,13 @@ module _ (work work′ w4 : List ℕ) (count cap : ℕ) (x : TraceRecord) (t : T
       p .len ∙ length-if (t .first) (a .by-generation) ∙ length-if (t .states) (a .by-statement) ∙ length-if (t .stands) (a .by-range)
       ∙ length-if applied (a .by-node)
 
-  put-chain : {f : Tells ℕ} {h : History} (heads links : ℕ) → heads + cap ≤ 8 * cap → links + cap ≤ 8 * cap → Chained f heads links cap h w4 → Chained f heads links cap h work′
+  put-chain : {f : Tells ℕ} {h : History} (heads links : ℕ) → heads + cap ≤ counts * cap → links + cap ≤ counts * cap → Chained f heads links cap h w4
+      → Chained f heads links cap h work′
   put-chain heads links u v c = chained-agrees (put-apart p (λ k w z. omega arith)) (put-apart p (λ k w z. omega arith)) c
 
   module _ (ne : nodes ≡ markedBucket cap x (x .node)) (ae : applied ≡ isMarked (x .node) && (isKind 1 x || isKind 3 x || isKind 4 x))
-      (re : ranges ≡ bucketBy cap (x .a)) (ge : generations ≡ bucketByTwo cap (x .a) (x .d)) (ce : after ≡ countsNext old (t .puts) (t .states) + cond (t .rises) 16384 0)
+      (re : ranges ≡ bucketBy cap (x .a)) (ge : generations ≡ bucketByTwo cap (x .a) (x .d))
+      (ce : after ≡ countsNext old (t .puts) (t .states) + cond (t .rises) 16384 0)
       (h : History) (n : length h ≡ count) (oe : old ≡ countsOf h) (k : Telling x h t) (d : DescriptorsIndexed cap h work) where
     applied-at : appliedBucket cap x h ≡ when applied nodes
     applied-at = applied-when cap x h ∙ rw (ae, ne)
@@ -325,45 +313,45 @@ module _ (work work′ w4 : List ℕ) (count cap : ℕ) (x : TraceRecord) (t : T
     counts-at : after ≡ countsAfter x h
     counts-at = ce ∙ rw (oe, k .puts, k .states, k .rises) (ap (λ (c : ℕ). c + cond (isRising x h) 16384 0) (sym (counts-more x h)))
 
-    by-node : Chained (appliedBucket cap) (0 * cap) (1 * cap) cap (x ∷ h) work′
+    by-node : Chained (appliedBucket cap) (appliedHeads * cap) (appliedLinks * cap) cap (x ∷ h) work′
     by-node =
-        put-chain (0 * cap) (1 * cap) (omega arith) (omega arith)
-        (chain-if (t .first) (a .by-generation) l gl (0 * cap) (1 * cap) (omega arith) (omega arith) (inl (omega arith))
-        (chain-if (t .states) (a .by-statement) l rl (0 * cap) (1 * cap) (omega arith) (omega arith) (inl (omega arith))
-        (chain-if (t .stands) (a .by-range) l rl (0 * cap) (1 * cap) (omega arith) (omega arith) (inl (omega arith))
+        put-chain (appliedHeads * cap) (appliedLinks * cap) (omega arith) (omega arith)
+        (chain-if (t .first) (a .by-generation) l gl (appliedHeads * cap) (appliedLinks * cap) (omega arith) (omega arith) (inl (omega arith))
+        (chain-if (t .states) (a .by-statement) l rl (appliedHeads * cap) (appliedLinks * cap) (omega arith) (omega arith) (inl (omega arith))
+        (chain-if (t .stands) (a .by-range) l rl (appliedHeads * cap) (appliedLinks * cap) (omega arith) (omega arith) (inl (omega arith))
         (step-if applied applied-at n l nl (omega arith) (a .by-node) (d .applied)))))
 
-    by-range : Chained (standingBucket cap) (2 * cap) (3 * cap) cap (x ∷ h) work′
+    by-range : Chained (standingBucket cap) (standingHeads * cap) (standingLinks * cap) cap (x ∷ h) work′
     by-range =
-        put-chain (2 * cap) (3 * cap) (omega arith) (omega arith)
-        (chain-if (t .first) (a .by-generation) l gl (2 * cap) (3 * cap) (omega arith) (omega arith) (inl (omega arith))
-        (chain-if (t .states) (a .by-statement) l rl (2 * cap) (3 * cap) (omega arith) (omega arith) (inl (omega arith))
+        put-chain (standingHeads * cap) (standingLinks * cap) (omega arith) (omega arith)
+        (chain-if (t .first) (a .by-generation) l gl (standingHeads * cap) (standingLinks * cap) (omega arith) (omega arith) (inl (omega arith))
+        (chain-if (t .states) (a .by-statement) l rl (standingHeads * cap) (standingLinks * cap) (omega arith) (omega arith) (inl (omega arith))
         (step-if (t .stands) standing-at n l rl (omega arith) (a .by-range)
-        (chain-if applied (a .by-node) l nl (2 * cap) (3 * cap) (omega arith) (omega arith) (inr (omega arith)) (d .standing)))))
+        (chain-if applied (a .by-node) l nl (standingHeads * cap) (standingLinks * cap) (omega arith) (omega arith) (inr (omega arith)) (d .standing)))))
 
-    by-statement : Chained (statedBucket cap) (4 * cap) (5 * cap) cap (x ∷ h) work′
+    by-statement : Chained (statedBucket cap) (statedHeads * cap) (statedLinks * cap) cap (x ∷ h) work′
     by-statement =
-        put-chain (4 * cap) (5 * cap) (omega arith) (omega arith)
-        (chain-if (t .first) (a .by-generation) l gl (4 * cap) (5 * cap) (omega arith) (omega arith) (inl (omega arith))
+        put-chain (statedHeads * cap) (statedLinks * cap) (omega arith) (omega arith)
+        (chain-if (t .first) (a .by-generation) l gl (statedHeads * cap) (statedLinks * cap) (omega arith) (omega arith) (inl (omega arith))
         (step-if (t .states) stated-at n l rl (omega arith) (a .by-statement)
-        (chain-if (t .stands) (a .by-range) l rl (4 * cap) (5 * cap) (omega arith) (omega arith) (inr (omega arith))
-        (chain-if applied (a .by-node) l nl (4 * cap) (5 * cap) (omega arith) (omega arith) (inr (omega arith)) (d .stated)))))
+        (chain-if (t .stands) (a .by-range) l rl (statedHeads * cap) (statedLinks * cap) (omega arith) (omega arith) (inr (omega arith))
+        (chain-if applied (a .by-node) l nl (statedHeads * cap) (statedLinks * cap) (omega arith) (omega arith) (inr (omega arith)) (d .stated)))))
 
-    by-generation : Chained (generationBucket cap) (6 * cap) (7 * cap) cap (x ∷ h) work′
+    by-generation : Chained (generationBucket cap) (generationHeads * cap) (generationLinks * cap) cap (x ∷ h) work′
     by-generation =
-        put-chain (6 * cap) (7 * cap) (omega arith) (omega arith)
+        put-chain (generationHeads * cap) (generationLinks * cap) (omega arith) (omega arith)
         (step-if (t .first) generation-at n l gl (omega arith) (a .by-generation)
-        (chain-if (t .states) (a .by-statement) l rl (6 * cap) (7 * cap) (omega arith) (omega arith) (inr (omega arith))
-        (chain-if (t .stands) (a .by-range) l rl (6 * cap) (7 * cap) (omega arith) (omega arith) (inr (omega arith))
-        (chain-if applied (a .by-node) l nl (6 * cap) (7 * cap) (omega arith) (omega arith) (inr (omega arith)) (d .generation)))))
+        (chain-if (t .states) (a .by-statement) l rl (generationHeads * cap) (generationLinks * cap) (omega arith) (omega arith) (inr (omega arith))
+        (chain-if (t .stands) (a .by-range) l rl (generationHeads * cap) (generationLinks * cap) (omega arith) (omega arith) (inr (omega arith))
+        (chain-if applied (a .by-node) l nl (generationHeads * cap) (generationLinks * cap) (omega arith) (omega arith) (inr (omega arith)) (d .generation)))))
 
-    by-counts : Column (cellOf countsAfter (x ∷ h)) (8 * cap) cap work′
+    by-counts : Column (cellOf countsAfter (x ∷ h)) (counts * cap) cap work′
     by-counts =
         column-put countsAfter h x
-        (column-agrees (same-if (t .first) (a .by-generation) l gl (8 * cap) (omega arith) (inr (omega arith)))
-        (column-agrees (same-if (t .states) (a .by-statement) l rl (8 * cap) (omega arith) (inr (omega arith)))
-        (column-agrees (same-if (t .stands) (a .by-range) l rl (8 * cap) (omega arith) (inr (omega arith)))
-        (column-agrees (same-if applied (a .by-node) l nl (8 * cap) (omega arith) (inr (omega arith))) (d .counts)))))
+        (column-agrees (same-if (t .first) (a .by-generation) l gl (counts * cap) (omega arith) (inr (omega arith)))
+        (column-agrees (same-if (t .states) (a .by-statement) l rl (counts * cap) (omega arith) (inr (omega arith)))
+        (column-agrees (same-if (t .stands) (a .by-range) l rl (counts * cap) (omega arith) (inr (omega arith)))
+        (column-agrees (same-if applied (a .by-node) l nl (counts * cap) (omega arith) (inr (omega arith))) (d .counts)))))
         n refl counts-at p
 
     all : DescriptorsIndexed cap (x ∷ h) work′
@@ -371,7 +359,7 @@ module _ (work work′ w4 : List ℕ) (count cap : ℕ) (x : TraceRecord) (t : T
 
   pub noted : nodes ≡ markedBucket cap x (x .node) → applied ≡ isMarked (x .node) && (isKind 1 x || isKind 3 x || isKind 4 x)
       → ranges ≡ bucketBy cap (x .a) → generations ≡ bucketByTwo cap (x .a) (x .d) → after ≡ countsNext old (t .puts) (t .states) + cond (t .rises) 16384 0
-      → ((h : History) → length h ≡ count → DescriptorsIndexed cap h work → old ≡ countsOf h) → Noted work work′ count cap x t
+      → ((h : History) → length h ≡ count → DescriptorsIndexed cap h work → old ≡ countsOf h) → DescriptorsNoted work work′ count cap x t
   noted ne ae re ge ce oe = record { len = size; others = word; indexed = λ h n k d. all ne ae re ge ce h n (oe h n d) k d }
 
 -- a value was found at the place of a put
@@ -391,18 +379,19 @@ indexed-clear z = record {
   counts = column-clear countsAfter z;
 }
 
-module _ {cap : ℕ} {work work′ : List ℕ} (s : (j : ℕ) → j < 9 * cap → getD work′ j 0 ≡ getD work j 0) where
-  own : (base : ℕ) → base + cap ≤ 9 * cap → Same base cap work work′
+module _ {cap : ℕ} {work work′ : List ℕ} (s : (j : ℕ) → j < ownColumns * cap → getD work′ j 0 ≡ getD work j 0) where
+  own : (base : ℕ) → base + cap ≤ ownColumns * cap → Same base cap work work′
   own base l = record { word = λ k w. s (base + k) (omega arith) }
 
-  own-chain : {f : Tells ℕ} {h : History} (heads links : ℕ) → heads + cap ≤ 9 * cap → links + cap ≤ 9 * cap → Chained f heads links cap h work → Chained f heads links cap h work′
+  own-chain : {f : Tells ℕ} {h : History} (heads links : ℕ) → heads + cap ≤ ownColumns * cap → links + cap ≤ ownColumns * cap
+      → Chained f heads links cap h work → Chained f heads links cap h work′
   own-chain heads links l m c = chained-agrees (own heads l) (own links m) c
 
   pub indexed-agrees : {h : History} → DescriptorsIndexed cap h work → DescriptorsIndexed cap h work′
   indexed-agrees d = record {
-    applied = own-chain (0 * cap) (1 * cap) (omega arith) (omega arith) (d .applied);
-    standing = own-chain (2 * cap) (3 * cap) (omega arith) (omega arith) (d .standing);
-    stated = own-chain (4 * cap) (5 * cap) (omega arith) (omega arith) (d .stated);
-    generation = own-chain (6 * cap) (7 * cap) (omega arith) (omega arith) (d .generation);
-    counts = column-agrees (own (8 * cap) (omega arith)) (d .counts);
+    applied = own-chain (appliedHeads * cap) (appliedLinks * cap) (omega arith) (omega arith) (d .applied);
+    standing = own-chain (standingHeads * cap) (standingLinks * cap) (omega arith) (omega arith) (d .standing);
+    stated = own-chain (statedHeads * cap) (statedLinks * cap) (omega arith) (omega arith) (d .stated);
+    generation = own-chain (generationHeads * cap) (generationLinks * cap) (omega arith) (omega arith) (d .generation);
+    counts = column-agrees (own (counts * cap) (omega arith)) (d .counts);
   }

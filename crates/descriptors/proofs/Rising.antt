@@ -5,26 +5,27 @@ use mathlib.Core.Bool.{Bool, true, false, cond, not, _&&_, _||_}
 use mathlib.Core.List.{List, [], _∷_}
 use mathlib.Core.Option.{Option, none, some}
 use mathlib.Core.Logic.{_⊎_, ⊎-elim}
-use Prim.Native.Nat.{ℕ, suc, _+_, _*_, _-_, _≤_, _<_}
+use Prim.Native.Nat.{ℕ, suc, _+_, _*_, _≤_, _<_}
 use native.Mathlib.Omega.{arith}
 use native.Mathlib.Decide.{decLt}
 use lib.Dec.{eqb, ltb, leb}
 use lib.ListN.{length, getD}
 use borrow.Author.Tests.{eqb-true, eq-eqb, leb-true, leb-false, le-leb, lt-leb, ltb-true, lt-ltb, le-ltb, not-true}
-use Rattle.record.proofs.Keys.{decide, never}
+use Rattle.record.proofs.Booleans.{decide, never, and-left, and-right, both}
 use Rattle.rules.specs.History.{History, holds, anyOf, latestOf, greater, greatestOf, lowestOf, addSome, told}
 use Rattle.rules.specs.Descriptors.{Entry, tellsStated, standing, stated, statements, isEmpty}
-use Rattle.rules.proofs.Booleans.{and-left, and-right, both}
+use Rattle.rules.proofs.Members.{anyOf-mem, anyOf-none, anyOf-less}
+use Rattle.rules.proofs.Placed.{placed-mem, latest-none as none-latest}
+use Rattle.rules.proofs.Best.{greatest-meets, lowest-meets}
 use Rattle.history.specs.Logs.{recordAt, hist}
 use Rattle.history.proofs.Logs.{hist-length}
 use Rattle.history.proofs.Cells.{cell-at}
 use Rattle.history.proofs.Chains.{In}
+use Rattle.history.specs.Places.{counts}
 use Rattle.history.specs.Weighing.{greaterOf, lowerOf}
 use Rattle.history.proofs.Queries.{greater-none, greater-keep, greater-take}
-use Rattle.descriptors.specs.Index.{notBelow, isRising, countsOf, countsAfter, DescriptorsIndexed, standingBucket, putEntry, put}
+use Rattle.descriptors.specs.Columns.{notBelow, isRising, countsOf, countsAfter, DescriptorsIndexed, standingBucket, putEntry, put}
 use Rattle.descriptors.specs.Answers.{atPlace, greatestUpTo, above}
-use Rattle.descriptors.proofs.Lists.{any-in, any-latest, greatest-is, lowest-is}
-use Rattle.descriptors.proofs.Agreement.{some-none}
 use Rattle.descriptors.proofs.Roles.{in-standing}
 use Rattle.descriptors.proofs.Walks.{Greatest, Lowest, above-range, at-range}
 
@@ -52,16 +53,6 @@ counts-bound h = ⊎-elim (λ t. go true t) (λ t. go false t) (decide (eqb (len
 
 -- ---- a list in which nothing of p's range is at an index not below p's
 
-any-less : {A : Type 0} (t q : A → Bool) → ((v : A) → q v ≡ true → t v ≡ true) → (vs : List A) → anyOf t vs ≡ false → anyOf q vs ≡ false
-unfolding anyOf
-any-less t q i [] n = refl
-any-less t q i (v ∷ vs) n = go (t v) (q v) (i v) (any-less t q i vs) n
-  where
-    go : (a b : Bool) → (b ≡ true → a ≡ true) → (anyOf t vs ≡ false → anyOf q vs ≡ false) → a || anyOf t vs ≡ false → b || anyOf q vs ≡ false
-    go true b f g e = never refl e
-    go false true f g e = never (f refl) refl
-    go false false f g e = g e
-
 greater-last : (o : Option Entry) → greaterOf (λ v. v .index) o none ≡ o
 unfolding greaterOf
 greater-last none = refl
@@ -74,21 +65,23 @@ lower-last (some v) = refl
 
 module _ (p : Entry) (vs : List Entry) (n : anyOf (notBelow p) vs ≡ false) where
   latest-none : (q : Entry → Bool) → ((v : Entry) → q v ≡ true → notBelow p v ≡ true) → latestOf q vs ≡ none
-  latest-none q i = some-none (latestOf q vs) (sym (any-latest q vs) ∙ any-less (notBelow p) q i vs n)
+  latest-none q i = none-latest q vs (anyOf-none q vs (anyOf-less (notBelow p) q i vs n))
 
   lowest-none : (q : Entry → Bool) → ((v : Entry) → q v ≡ true → notBelow p v ≡ true) → lowestOf (λ v. v .index) q vs ≡ none
   lowest-none q i = go (lowestOf (λ v. v .index) q vs) refl
     where
       go : (o : Option Entry) → lowestOf (λ v. v .index) q vs ≡ o → o ≡ none
       go none e = refl
-      go (some z) e = let w = lowest-is (λ v. v .index) q z vs e in never (any-in (notBelow p) (w .there) (i z (w .passes))) n
+      go (some z) e =
+          let w = lowest-meets (λ v. v .index) q {xs = vs} {r = z} e in never (anyOf-mem (notBelow p) (placed-mem (w .place)) (i z (w .place .passes))) n
 
   -- the greatest of it does not come up to p
-  greatest-less : (q : Entry → Bool) → ((v : Entry) → q v ≡ true → v .range ≡ p .range) → (z : Entry) → greatestOf (λ v. v .index) q vs ≡ some z → z .index < p .index
+  greatest-less : (q : Entry → Bool) → ((v : Entry) → q v ≡ true → v .range ≡ p .range) → (z : Entry) → greatestOf (λ v. v .index) q vs ≡ some z
+      → z .index < p .index
   greatest-less q i z e =
-      let w = greatest-is (λ v. v .index) q z vs e in
+      let w = greatest-meets (λ v. v .index) q {xs = vs} {r = z} e in
       ⊎-elim
-      (λ t. never (any-in (notBelow p) (w .there) (both (eq-eqb (z .range) (p .range) (i z (w .passes))) t)) n)
+      (λ t. never (anyOf-mem (notBelow p) (placed-mem (w .place)) (both (eq-eqb (z .range) (p .range) (i z (w .place .passes))) t)) n)
       (λ t. leb-false (p .index) (z .index) t)
       (decide (leb (p .index) (z .index)))
 
@@ -115,14 +108,14 @@ marked-go n false l h = absurd (omega (arith, leb-true 16384 (n + 0) h))
 
 module _ (cap : ℕ) (log work : List ℕ) (n k : ℕ) {b : ℕ} (l : k < n) (m : n ≤ cap) (s : cap ≤ 4096) (d : DescriptorsIndexed cap (hist log n) work)
     (i : In (standingBucket cap) b log k) where
-  rising-at : leb 16384 (getD work (8 * cap + k) 0) ≡ true → isRising (recordAt log k) (hist log k) ≡ true
+  rising-at : leb 16384 (getD work (counts * cap + k) 0) ≡ true → isRising (recordAt log k) (hist log k) ≡ true
   rising-at h =
       marked-go (countsOf (recordAt log k ∷ hist log k)) (isRising (recordAt log k) (hist log k))
       (omega (arith, counts-bound (recordAt log k ∷ hist log k), hist-length log k))
       (ap (leb 16384) (sym (d .counts .word k (omega arith) ∙ cell-at countsAfter log n k l)) ∙ h)
 
   -- its value is above every earlier one of its range
-  older-below : leb 16384 (getD work (8 * cap + k) 0) ≡ true → anyOf (notBelow (putEntry log k)) (standing (hist log k)) ≡ false
+  older-below : leb 16384 (getD work (counts * cap + k) 0) ≡ true → anyOf (notBelow (putEntry log k)) (standing (hist log k)) ≡ false
   unfolding isRising
   older-below h =
       let r : holds (λ p. not (anyOf (notBelow p) (standing (hist log k)))) (some (putEntry log k)) ≡ true =
@@ -131,7 +124,7 @@ module _ (cap : ℕ) (log work : List ℕ) (n k : ℕ) {b : ℕ} (l : k < n) (m 
 
   -- the walk to the greatest stops at one that passes
   pub greatest-stop : (range : ℕ) (p : Entry → Bool) (best best′ : ℕ) {x : Option Entry} {t u : Bool} → ((v : Entry) → p v ≡ true → v .range ≡ range)
-      → t ≡ p (putEntry log k) → u ≡ leb 16384 (getD work (8 * cap + k) 0) → t && u ≡ true
+      → t ≡ p (putEntry log k) → u ≡ leb 16384 (getD work (counts * cap + k) 0) → t && u ≡ true
       → put log best′ ≡ cond t (greaterOf (λ v. v .index) (put log best) (some (putEntry log k))) (put log best)
       → x ≡ Greatest cap range log p best′ k → put log best′ ≡ x
   greatest-stop range p best best′ {x} {t} {u} r e f h q w =
@@ -143,22 +136,22 @@ module _ (cap : ℕ) (log work : List ℕ) (n k : ℕ) {b : ℕ} (l : k < n) (m 
       ∙ sym z)
 
   -- where it is of the range and not above the index, everything earlier of the range is below the index
-  module _ (range index : ℕ) {t : Bool} (e : t ≡ leb 16384 (getD work (8 * cap + k) 0) && eqb (recordAt log k .a) range && leb (recordAt log k .b) index)
+  module _ (range index : ℕ) {t : Bool} (e : t ≡ leb 16384 (getD work (counts * cap + k) 0) && eqb (recordAt log k .a) range && leb (recordAt log k .b) index)
       (h : t ≡ true) where
-    all-hold : leb 16384 (getD work (8 * cap + k) 0) && eqb (recordAt log k .a) range && leb (recordAt log k .b) index ≡ true
+    all-hold : leb 16384 (getD work (counts * cap + k) 0) && eqb (recordAt log k .a) range && leb (recordAt log k .b) index ≡ true
     all-hold = sym e ∙ h
 
-    first-two : leb 16384 (getD work (8 * cap + k) 0) && eqb (recordAt log k .a) range ≡ true
-    first-two = and-left (leb 16384 (getD work (8 * cap + k) 0) && eqb (recordAt log k .a) range) (leb (recordAt log k .b) index) all-hold
+    first-two : leb 16384 (getD work (counts * cap + k) 0) && eqb (recordAt log k .a) range ≡ true
+    first-two = and-left (leb 16384 (getD work (counts * cap + k) 0) && eqb (recordAt log k .a) range) (leb (recordAt log k .b) index) all-hold
 
     stop-older : anyOf (notBelow (putEntry log k)) (standing (hist log k)) ≡ false
-    stop-older = older-below (and-left (leb 16384 (getD work (8 * cap + k) 0)) (eqb (recordAt log k .a) range) first-two)
+    stop-older = older-below (and-left (leb 16384 (getD work (counts * cap + k) 0)) (eqb (recordAt log k .a) range) first-two)
 
     stop-range : recordAt log k .a ≡ range
-    stop-range = eqb-true _ _ (and-right (leb 16384 (getD work (8 * cap + k) 0)) (eqb (recordAt log k .a) range) first-two)
+    stop-range = eqb-true _ _ (and-right (leb 16384 (getD work (counts * cap + k) 0)) (eqb (recordAt log k .a) range) first-two)
 
     stop-index : recordAt log k .b ≤ index
-    stop-index = leb-true _ _ (and-right (leb 16384 (getD work (8 * cap + k) 0) && eqb (recordAt log k .a) range) (leb (recordAt log k .b) index) all-hold)
+    stop-index = leb-true _ _ (and-right (leb 16384 (getD work (counts * cap + k) 0) && eqb (recordAt log k .a) range) (leb (recordAt log k .b) index) all-hold)
 
     not-below : (v : Entry) → v .range ≡ range → index ≤ v .index → notBelow (putEntry log k) v ≡ true
     not-below v r l =
@@ -171,12 +164,15 @@ module _ (cap : ℕ) (log work : List ℕ) (n k : ℕ) {b : ℕ} (l : k < n) (m 
         let q : index ≡ v .index = eqb-true _ _ (and-right (eqb range (v .range)) (eqb index (v .index)) y) in
         not-below v (at-range range index v y) (omega arith))
 
-    pub lowest-stop : (any : Bool) (generation best : ℕ) {x : Option Entry} → x ≡ Lowest cap range log (above range index any generation) best k → put log best ≡ x
+    pub lowest-stop : (any : Bool) (generation best : ℕ) {x : Option Entry} → x ≡ Lowest cap range log (above range index any generation) best k
+        → put log best ≡ x
     lowest-stop any generation best w =
         sym (w ∙ ap (lowerOf (λ v. v .index) (put log best))
         (lowest-none (putEntry log k) (standing (hist log k)) stop-older (above range index any generation)
         (λ v y.
-        let q : index < v .index = ltb-true _ _ (and-right (eqb (v .range) range) (ltb index (v .index)) (and-left (eqb (v .range) range && ltb index (v .index)) (any || eqb (v .held .generation) generation) y)) in
+        let q : index < v .index = ltb-true _ _
+        (and-right (eqb (v .range) range) (ltb index (v .index))
+        (and-left (eqb (v .range) range && ltb index (v .index)) (any || eqb (v .held .generation) generation) y)) in
         not-below v (above-range range index any generation v y) (omega arith)))
         ∙ lower-last (put log best))
 

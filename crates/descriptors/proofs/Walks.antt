@@ -13,26 +13,28 @@ use borrow.Author.Tests.{eqb-true}
 use Rattle.record.specs.declared.named.Node.{Node}
 use Rattle.record.specs.declared.named.Node.the-variants.{Marked, Missing}
 use Rattle.record.specs.Records.{TraceRecord, decode}
-use Rattle.record.proofs.Keys.{decide, never}
-use Rattle.rules.specs.History.{History, isKind, isBy, byNode, when, orElse, anyOf, latestOf, earliestOf, greatestOf, lowestOf}
+use Rattle.record.proofs.Booleans.{decide, never, and-left, and-right}
+use Rattle.rules.specs.History.{History, isKind, isBy, byNode, anyOf, latestOf, earliestOf, greatestOf, lowestOf}
 use Rattle.rules.specs.Descriptors.{Entry, heldBy, tellsApplied, applied, tellsPut, samePlace, standing, firstAtGenerationIn, firstAtGeneration}
 use Rattle.history.specs.Logs.{bytesAt, recordAt, hist}
 use Rattle.history.proofs.Logs.{record-bytes}
 use Rattle.history.proofs.Chains.{In}
-use Rattle.rules.proofs.Booleans.{and-left, and-right}
-use Rattle.rules.proofs.Skips.{told-hit, told-skip, latestOf-hit}
-use Rattle.history.proofs.Tellings.{fresh, when-holds, firsts-afresh}
+use Rattle.rules.proofs.Members.{anyOf-some, anyOf-none}
+use Rattle.rules.proofs.Placed.{earliest-none, earliest-passing}
+use Rattle.rules.proofs.Skips.{told-hit, told-skip, latestOf-hit, earliestOf-kept, earliestOf-hit}
+use Rattle.rules.proofs.Tellings.{fresh, when-holds, firsts-afresh}
 use Rattle.history.specs.Weighing.{greaterOf, lowerOf}
 use Rattle.history.proofs.Queries.{Ignores, ignores-then, latest-ignores, earliest-ignores, greatest-ignores, lowest-ignores, greater-take}
 use Rattle.history.proofs.Queries.{greater-keep, lower-take, lower-keep, greatest-turns, lowest-turns, greatest-end, lowest-end}
 use Rattle.history.proofs.Walks.{look-less, look-outside, latest-outside, latest-found, latest-passed, latest-end, firsts-outside, firsts-found, firsts-end}
 use Rattle.history.specs.Buckets.{bucketBy, bucketByTwo}
-use Rattle.descriptors.specs.Index.{newValue, firstValue, sameGeneration, appliedAt, appliedBucket, standingBucket, generationBucket, putEntry, statedEntry, put, statement}
+use Rattle.descriptors.specs.Columns.{newValue, firstValue, sameGeneration, appliedAt, appliedBucket, standingBucket, generationBucket, putEntry}
+use Rattle.descriptors.specs.Columns.{statedEntry, put, statement}
 use Rattle.descriptors.specs.Answers.{upTo, above, atPlace}
 use Rattle.descriptors.proofs.Roles.{new-fresh, first-new, first-free, in-standing, in-generation}
 
 -- a number one above a place
-pub put-suc : (log : List ℕ) (i : ℕ) → put log (i + 1) ≡ some (putEntry log i)
+put-suc : (log : List ℕ) (i : ℕ) → put log (i + 1) ≡ some (putEntry log i)
 put-suc log i = ap (put log) (add-one i)
 
 pub statement-suc : (log : List ℕ) (i : ℕ) → statement log (i + 1) ≡ some (statedEntry log i)
@@ -47,18 +49,18 @@ standing-bucket cap range x h v e r = rw (new-fresh x h, e, r)
 
 module _ (cap range : ℕ) (log : List ℕ) where
   -- a question to the standing values that only those of the range can change
-  pub standing-skip : {B : Type 0} {p : Entry → Bool} {Q : List Entry → B} → Ignores p Q → ((v : Entry) → p v ≡ true → v .range ≡ range)
+  standing-skip : {B : Type 0} {p : Entry → Bool} {Q : List Entry → B} → Ignores p Q → ((v : Entry) → p v ≡ true → v .range ≡ range)
       → (k : ℕ) → (In (standingBucket cap) (bucketBy cap range) log k → ⊥) → Q (standing (hist log (suc k))) ≡ Q (standing (hist log k))
   unfolding standing
   standing-skip q r =
       firsts-outside q samePlace tellsPut (standingBucket cap) (bucketBy cap range) log (λ x h v e t. standing-bucket cap range x h v e (r v t))
 
-  pub standing-hit : {i b : ℕ} → 0 < i → In (standingBucket cap) b log (i - 1) → standing (hist log i) ≡ putEntry log (i - 1) ∷ standing (hist log (i - 1))
+  standing-hit : {i b : ℕ} → 0 < i → In (standingBucket cap) b log (i - 1) → standing (hist log i) ≡ putEntry log (i - 1) ∷ standing (hist log (i - 1))
   unfolding standing
   standing-hit {i} l e =
       firsts-found samePlace tellsPut log l (sym (new-fresh (recordAt log (i - 1)) (hist log (i - 1))) ∙ in-standing cap log (i - 1) e)
 
-pub standing-end : (log : List ℕ) {i : ℕ} → i ≡ 0 → standing (hist log i) ≡ []
+standing-end : (log : List ℕ) {i : ℕ} → i ≡ 0 → standing (hist log i) ≡ []
 unfolding standing
 standing-end log e = firsts-end samePlace tellsPut log e
 
@@ -133,7 +135,8 @@ at-suc : (log : List ℕ) (k : ℕ) → recordAt log (suc k - 1) .b ≡ recordAt
 at-suc log k = let e : suc k - 1 ≡ k = omega arith in ap (λ (n : ℕ). recordAt log n .b) e
 
 pub weigh-first : (log : List ℕ) (best i : ℕ) (passes : Bool) (f : Option Entry → Option Entry → Option Entry)
-    → ((v : Entry) → f none (some v) ≡ some v) → passes ≡ true → best ≡ 0 → put log (i + 1) ≡ cond passes (f (put log best) (some (putEntry log i))) (put log best)
+    → ((v : Entry) → f none (some v) ≡ some v) → passes ≡ true → best ≡ 0
+    → put log (i + 1) ≡ cond passes (f (put log best) (some (putEntry log i))) (put log best)
 weigh-first log best i passes f g t z = put-suc log i ∙ rw (t, z) (sym (g (putEntry log i)))
 
 module _ (log : List ℕ) (best i : ℕ) (passes : Bool) (t : passes ≡ true) (n : best ≡ 0 → ⊥) where
@@ -141,7 +144,8 @@ module _ (log : List ℕ) (best i : ℕ) (passes : Bool) (t : passes ≡ true) (
       → put log (i + 1) ≡ cond passes (greaterOf (λ v. v .index) (put log best) (some (putEntry log i))) (put log best)
   greater-takes l = put-suc log i ∙ rw t (go best n l)
     where
-      go : (b : ℕ) → (b ≡ 0 → ⊥) → recordAt log (b - 1) .b ≤ recordAt log (i + 1 - 1) .b → some (putEntry log i) ≡ greaterOf (λ v. v .index) (put log b) (some (putEntry log i))
+      go : (b : ℕ) → (b ≡ 0 → ⊥) → recordAt log (b - 1) .b ≤ recordAt log (i + 1 - 1) .b
+          → some (putEntry log i) ≡ greaterOf (λ v. v .index) (put log b) (some (putEntry log i))
       go zero m w = absurd (m refl)
       go (suc k) m w =
           let q : recordAt log k .b ≤ recordAt log i .b = omega (arith, w, at-next log i, at-suc log k) in
@@ -151,7 +155,8 @@ module _ (log : List ℕ) (best i : ℕ) (passes : Bool) (t : passes ≡ true) (
       → put log best ≡ cond passes (greaterOf (λ v. v .index) (put log best) (some (putEntry log i))) (put log best)
   greater-keeps l = rw t (go best n l)
     where
-      go : (b : ℕ) → (b ≡ 0 → ⊥) → recordAt log (i + 1 - 1) .b < recordAt log (b - 1) .b → put log b ≡ greaterOf (λ v. v .index) (put log b) (some (putEntry log i))
+      go : (b : ℕ) → (b ≡ 0 → ⊥) → recordAt log (i + 1 - 1) .b < recordAt log (b - 1) .b
+          → put log b ≡ greaterOf (λ v. v .index) (put log b) (some (putEntry log i))
       go zero m w = absurd (m refl)
       go (suc k) m w =
           let q : recordAt log i .b < recordAt log k .b = omega (arith, w, at-next log i, at-suc log k) in
@@ -161,7 +166,8 @@ module _ (log : List ℕ) (best i : ℕ) (passes : Bool) (t : passes ≡ true) (
       → put log (i + 1) ≡ cond passes (lowerOf (λ v. v .index) (put log best) (some (putEntry log i))) (put log best)
   lower-takes l = put-suc log i ∙ rw t (go best n l)
     where
-      go : (b : ℕ) → (b ≡ 0 → ⊥) → recordAt log (i + 1 - 1) .b ≤ recordAt log (b - 1) .b → some (putEntry log i) ≡ lowerOf (λ v. v .index) (put log b) (some (putEntry log i))
+      go : (b : ℕ) → (b ≡ 0 → ⊥) → recordAt log (i + 1 - 1) .b ≤ recordAt log (b - 1) .b
+          → some (putEntry log i) ≡ lowerOf (λ v. v .index) (put log b) (some (putEntry log i))
       go zero m w = absurd (m refl)
       go (suc k) m w =
           let q : recordAt log i .b ≤ recordAt log k .b = omega (arith, w, at-next log i, at-suc log k) in
@@ -171,7 +177,8 @@ module _ (log : List ℕ) (best i : ℕ) (passes : Bool) (t : passes ≡ true) (
       → put log best ≡ cond passes (lowerOf (λ v. v .index) (put log best) (some (putEntry log i))) (put log best)
   lower-keeps l = rw t (go best n l)
     where
-      go : (b : ℕ) → (b ≡ 0 → ⊥) → recordAt log (b - 1) .b < recordAt log (i + 1 - 1) .b → put log b ≡ lowerOf (λ v. v .index) (put log b) (some (putEntry log i))
+      go : (b : ℕ) → (b ≡ 0 → ⊥) → recordAt log (b - 1) .b < recordAt log (i + 1 - 1) .b
+          → put log b ≡ lowerOf (λ v. v .index) (put log b) (some (putEntry log i))
       go zero m w = absurd (m refl)
       go (suc k) m w =
           let q : recordAt log k .b < recordAt log i .b = omega (arith, w, at-next log i, at-suc log k) in
@@ -200,11 +207,14 @@ module _ (log : List ℕ) (i : ℕ) {bytes : List ℕ} (e : bytes ≡ bytesAt i 
   unfolding heldBy
   of-is range generation q = rw (record-bytes log i e) at q
 
-pub up-to-range : (range : ℕ) (free : Bool) (index : ℕ) (any : Bool) (generation : ℕ) (v : Entry) → upTo range free index any generation v ≡ true → v .range ≡ range
-up-to-range range free index any generation v h = eqb-true _ _ (and-left (eqb (v .range) range) (free || leb (v .index) index) (and-left _ (any || eqb (v .held .generation) generation) h))
+pub up-to-range : (range : ℕ) (free : Bool) (index : ℕ) (any : Bool) (generation : ℕ) (v : Entry) → upTo range free index any generation v ≡ true
+    → v .range ≡ range
+up-to-range range free index any generation v h =
+    eqb-true _ _ (and-left (eqb (v .range) range) (free || leb (v .index) index) (and-left _ (any || eqb (v .held .generation) generation) h))
 
 pub above-range : (range index : ℕ) (any : Bool) (generation : ℕ) (v : Entry) → above range index any generation v ≡ true → v .range ≡ range
-above-range range index any generation v h = eqb-true _ _ (and-left (eqb (v .range) range) (ltb index (v .index)) (and-left _ (any || eqb (v .held .generation) generation) h))
+above-range range index any generation v h =
+    eqb-true _ _ (and-left (eqb (v .range) range) (ltb index (v .index)) (and-left _ (any || eqb (v .held .generation) generation) h))
 
 pub at-range : (range index : ℕ) (v : Entry) → atPlace range index v ≡ true → v .range ≡ range
 at-range range index v h = sym (eqb-true _ _ (and-left (eqb range (v .range)) (eqb index (v .index)) h))
@@ -241,7 +251,8 @@ ofGeneration range generation v = eqb (v .range) range && eqb (v .held .generati
 standing-more : (x : TraceRecord) (h : History) {v : Entry} → newValue x h ≡ some v → standing (x ∷ h) ≡ v ∷ standing h
 unfolding standing
 standing-more x h {v} e =
-    firsts-afresh samePlace tellsPut (x ∷ h) ∙ told-hit (fresh samePlace tellsPut) x h v (sym (new-fresh x h) ∙ e) ∙ ap (λ (vs : List Entry). v ∷ vs) (sym (firsts-afresh samePlace tellsPut h))
+    firsts-afresh samePlace tellsPut (x ∷ h) ∙ told-hit (fresh samePlace tellsPut) x h v (sym (new-fresh x h) ∙ e)
+    ∙ ap (λ (vs : List Entry). v ∷ vs) (sym (firsts-afresh samePlace tellsPut h))
 
 standing-same : (x : TraceRecord) (h : History) → newValue x h ≡ none → standing (x ∷ h) ≡ standing h
 unfolding standing
@@ -249,32 +260,11 @@ standing-same x h e =
     firsts-afresh samePlace tellsPut (x ∷ h) ∙ told-skip (fresh samePlace tellsPut) x h (sym (new-fresh x h) ∙ e) ∙ sym (firsts-afresh samePlace tellsPut h)
 
 -- an earlier one that passes stays the earliest
-pub earliest-some : (p : Entry → Bool) (vs : List Entry) → anyOf p vs ≡ true → (w : Entry) × (earliestOf p vs ≡ some w)
-unfolding anyOf earliestOf
-earliest-some p [] h = never h refl
-earliest-some p (v ∷ vs) h = go (earliestOf p vs) (p v) (anyOf p vs) (earliest-some p vs) h
-  where
-    go : (o : Option Entry) (b a : Bool) → (a ≡ true → (w : Entry) × (o ≡ some w)) → b || a ≡ true → (w : Entry) × (orElse o (when b v) ≡ some w)
-    go (some w) b a i e = (w, refl)
-    go none true a i e = (v, refl)
-    go none false a i e = let w = i e in let z : _≡_ {A = ℕ} 0 1 = let y = w .1 in cc in absurd (omega arith)
-
 earliest-stays : (p : Entry → Bool) (v : Entry) (vs : List Entry) → anyOf p vs ≡ true → earliestOf p (v ∷ vs) ≡ earliestOf p vs
-unfolding earliestOf
-earliest-stays p v vs h = let w = earliest-some p vs h in rw (w .1)
-
-earliest-none : (p : Entry → Bool) (vs : List Entry) → anyOf p vs ≡ false → earliestOf p vs ≡ none
-unfolding anyOf earliestOf
-earliest-none p [] h = refl
-earliest-none p (v ∷ vs) h = go (p v) (anyOf p vs) (earliest-none p vs) h
-  where
-    go : (b a : Bool) → (a ≡ false → earliestOf p vs ≡ none) → b || a ≡ false → orElse (earliestOf p vs) (when b v) ≡ none
-    go true a i e = never refl e
-    go false a i e = rw (i e)
-
-earliest-first : (p : Entry → Bool) (v : Entry) (vs : List Entry) → p v ≡ true → anyOf p vs ≡ false → earliestOf p (v ∷ vs) ≡ some v
-unfolding earliestOf
-earliest-first p v vs h n = rw (earliest-none p vs n, h)
+earliest-stays p v vs h =
+    let a = anyOf-some p vs h in
+    let w = earliest-passing p (a .mem) (a .passes) in
+    earliestOf-kept p v vs (w .0) (w .1) ∙ sym (w .1)
 
 -- of the same range and generation as one that is of both
 same-of : (range generation : ℕ) (v : Entry) (vs : List Entry) → ofGeneration range generation v ≡ true
@@ -294,7 +284,8 @@ module _ (cap range generation : ℕ) where
       rw (e, n, a, b)
 
   generation-go : (x : TraceRecord) (h : History) → (generationBucket cap x h ≡ some (bucketByTwo cap range generation) → ⊥)
-      → (o : Option Entry) → newValue x h ≡ o → earliestOf (ofGeneration range generation) (standing (x ∷ h)) ≡ earliestOf (ofGeneration range generation) (standing h)
+      → (o : Option Entry) → newValue x h ≡ o
+      → earliestOf (ofGeneration range generation) (standing (x ∷ h)) ≡ earliestOf (ofGeneration range generation) (standing h)
   generation-go x h n none e = ap (earliestOf (ofGeneration range generation)) (standing-same x h e)
   generation-go x h n (some v) e =
       ap (earliestOf (ofGeneration range generation)) (standing-more x h e)
@@ -318,18 +309,23 @@ module _ (cap range generation : ℕ) where
     first-at : firstValue (recordAt log (i - 1)) (hist log (i - 1)) ≡ some (putEntry log (i - 1))
     first-at = in-generation cap log (i - 1) m
 
-    generation-at : firstAtGeneration range generation (hist log i) ≡ earliestOf (ofGeneration range generation) (putEntry log (i - 1) ∷ standing (hist log (i - 1)))
+    generation-at : firstAtGeneration range generation (hist log i)
+        ≡ earliestOf (ofGeneration range generation) (putEntry log (i - 1) ∷ standing (hist log (i - 1)))
     unfolding firstAtGeneration firstAtGenerationIn
     generation-at =
         look-less (firstAtGeneration range generation) log i l
-        ∙ ap (earliestOf (ofGeneration range generation)) (standing-more (recordAt log (i - 1)) (hist log (i - 1)) (first-new (recordAt log (i - 1)) (hist log (i - 1)) first-at))
+        ∙ ap (earliestOf (ofGeneration range generation))
+        (standing-more (recordAt log (i - 1)) (hist log (i - 1)) (first-new (recordAt log (i - 1)) (hist log (i - 1)) first-at))
 
     pub generation-hit : t ≡ true → firstAtGeneration range generation (hist log i) ≡ put log (i - 1 + 1)
     generation-hit h =
         generation-at
-        ∙ earliest-first (ofGeneration range generation) (putEntry log (i - 1)) (standing (hist log (i - 1))) (sym e ∙ h)
+        ∙ earliestOf-hit (ofGeneration range generation) (putEntry log (i - 1)) (standing (hist log (i - 1)))
+        (earliest-none (ofGeneration range generation) (standing (hist log (i - 1)))
+        (anyOf-none (ofGeneration range generation) (standing (hist log (i - 1)))
         (sym (same-of range generation (putEntry log (i - 1)) (standing (hist log (i - 1))) (sym e ∙ h))
-        ∙ first-free (recordAt log (i - 1)) (hist log (i - 1)) first-at)
+        ∙ first-free (recordAt log (i - 1)) (hist log (i - 1)) first-at)))
+        (sym e ∙ h)
         ∙ sym (put-suc log (i - 1))
 
     pub generation-miss : t ≡ false → firstAtGeneration range generation (hist log i) ≡ firstAtGeneration range generation (hist log (i - 1))

@@ -1,33 +1,10 @@
--- Agreement of a history with one more record, where it was clear before: only what the record touches is judged again.
-use mathlib.Core.Bool.{Bool, true, false, cond, not, _&&_, _||_}
-use mathlib.Core.List.{List, _∷_}
-use mathlib.Core.Option.{Option, none, some}
+-- What a new value makes of the statements that were no fault: which of them become faulty by it.
+use mathlib.Core.Bool.{Bool, cond, not, _&&_, _||_}
+use mathlib.Core.List.{List}
+use mathlib.Core.Option.{Option}
 use lib.Dec.{eqb, ltb, leb}
-use Rattle.record.specs.Records.{TraceRecord}
-use Rattle.rules.specs.declared.Case.{Case}
-use Rattle.rules.specs.declared.Case.the-variants.{Clear}
-use Rattle.rules.specs.History.{History, anyOf, those, isSome, holds, greatestOf, lowestOf}
-use Rattle.rules.specs.Cases.{earliestCase}
-use Rattle.rules.specs.Descriptors.{Entry, Role, puts, states, neither, roleOf, entryAt, samePlace, standing, stated, atIn, heldEqb, putFault, statementFault}
-
--- a new standing value p can change what a statement s is judged by: it may be the value at s's index, or a later one of
--- s's generation
-abbrev pub touches : Entry → Entry → Bool
-touches p s = eqb (p .range) (s .range) && (leb (p .index) (s .index) || eqb (p .held .generation) (s .held .generation))
-
--- the case of a put p: against the value that stands at its place; where none does, the statements that it touches
-abbrev pub agreementPut : Bool → Entry → History → Case
-agreementPut true p h = putFault (some p) (standing h)
-agreementPut false p h = earliestCase (statementFault (p ∷ standing h)) (those (touches p) (stated h))
-
-abbrev pub agreementRole : Role → TraceRecord → History → Case
-agreementRole neither x h = Clear
-agreementRole (states i) x h = statementFault (standing h) (entryAt i x h)
-agreementRole (puts i) x h = agreementPut (anyOf (samePlace (entryAt i x h)) (standing h)) (entryAt i x h) h
-
--- the case that arises at x, where agreement was clear of those before
-unfoldable pub agreementAt : TraceRecord → History → Case
-agreementAt x h = agreementRole (roleOf x h) x h
+use Rattle.rules.specs.History.{isSome, holds, greatestOf, lowestOf}
+use Rattle.rules.specs.Descriptors.{Entry, atIn, heldEqb}
 
 -- the standing value of p's range at the lowest index above p's
 unfoldable pub nextIn : Entry → List Entry → Option Entry

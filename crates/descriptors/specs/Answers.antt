@@ -2,7 +2,7 @@
 use mathlib.Core.Bool.{Bool, false, cond, not, _&&_, _||_}
 use mathlib.Core.List.{List, [], _∷_}
 use mathlib.Core.Option.{Option, none, some}
-use Prim.Native.Nat.{ℕ, zero, suc}
+use Prim.Native.Nat.{ℕ}
 use lib.Dec.{eqb, ltb, leb}
 use Rattle.rules.specs.declared.Case.{Case}
 use Rattle.rules.specs.declared.Found.{Found}
@@ -12,7 +12,7 @@ use Rattle.rules.specs.History.{holds, isSome, greatestOf, lowestOf}
 use Rattle.rules.specs.Cases.{fault, faultIf, caseOf}
 use Rattle.rules.specs.Descriptors.{Entry, Held, heldBy, heldEqb, atIn, puts, states, neither}
 use Rattle.rules.specs.Descriptors as rules
-use Rattle.descriptors.specs.Index.{statedIndex}
+use Rattle.descriptors.specs.Columns.{statedIndex}
 use Rattle.descriptors.specs.declared.role.Applied.{Applied}
 use Rattle.descriptors.specs.declared.role.Applied.the-variants.{Known, Unknown}
 use Rattle.descriptors.specs.declared.role.Role.{Role}
@@ -33,11 +33,6 @@ roleIs Neither = neither
 abbrev pub foundBy : Option Entry → Found
 foundBy none = Nothing
 foundBy (some v) = At (v .number)
-
--- a record's number, 0 for none
-abbrev pub foundAt : ℕ → Found
-foundAt zero = Nothing
-foundAt (suc k) = At (suc k)
 
 -- the value at a place, as a put asks for it
 abbrev pub atPlace : ℕ → ℕ → Entry → Bool

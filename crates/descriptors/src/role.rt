@@ -1,6 +1,7 @@
 // What a record does: the applied index that it is read at, and whether it puts its value, states it, or neither.
+use crate::cells::applied_below;
+use crate::cells::applied_top;
 use history::bucket::bucket_by_two;
-use history::chain::link;
 use history::log::record_at;
 use record::field::a;
 use record::field::b;
@@ -21,7 +22,7 @@ ghost use Rattle.rules.specs.History.{isKind, isBy, byNode, holds};
 ghost use Rattle.rules.specs.Descriptors.{applied, reached, createdRole, roleOf};
 ghost use Rattle.history.specs.Logs.{hist};
 ghost use Rattle.history.specs.Bounds.{Bounds};
-ghost use Rattle.descriptors.specs.Index.{DescriptorsIndexed};
+ghost use Rattle.descriptors.specs.Columns.{DescriptorsIndexed};
 ghost use Rattle.descriptors.specs.Answers.{appliedIs, roleIs};
 
 pub enum Applied {
@@ -70,13 +71,13 @@ pub fn applied_of(
     requires { ⌜ Bounds (now log) (now work) count cap ⌝ }
     ensures { λ r. ⌜ (DescriptorsIndexed cap (hist (now (log .entry)) count) (now (work .entry)) → appliedIs r ≡ applied id range (hist (now (log .entry)) count)) ⌝ }
 {
-    let mut i = link(work, bucket_by_two(cap, id as u64, range), count);
+    let mut i = applied_top(work, cap, bucket_by_two(cap, id as u64, range), count);
     while 0 < i {
         i -= 1;
         if is_applied(record_at(log, i), id, range) {
             return Applied::Known(b(record_at(log, i)));
         }
-        i = link(work, cap + i, i);
+        i = applied_below(work, cap, i);
     }
     Applied::Unknown
 }

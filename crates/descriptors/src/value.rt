@@ -1,7 +1,11 @@
 // The standing values of a range: walks along their chain, and the look-ups.
+use crate::cells::generation_below;
+use crate::cells::generation_top;
+use crate::cells::is_rising;
+use crate::cells::standing_below;
+use crate::cells::standing_top;
 use history::bucket::bucket_by;
 use history::bucket::bucket_by_two;
-use history::chain::link;
 use history::log::record_at;
 use record::field::a;
 use record::field::b;
@@ -19,8 +23,10 @@ ghost use Rattle.rules.specs.Descriptors.{standing, at, before, firstAtGenerati
 ghost use Rattle.history.specs.Logs.{recordAt, hist};
 ghost use Rattle.history.specs.Weighing.{greaterOf, lowerOf};
 ghost use Rattle.history.specs.Bounds.{Bounds};
-ghost use Rattle.descriptors.specs.Index.{DescriptorsIndexed, putEntry, put};
-ghost use Rattle.descriptors.specs.Answers.{foundAt, foundBy, greatestUpTo, above, lowestAbove, atPlace};
+ghost use Rattle.history.specs.Places.{counts};
+ghost use Rattle.descriptors.specs.Columns.{DescriptorsIndexed, putEntry, put};
+ghost use Rattle.descriptors.specs.Answers.{foundBy, greatestUpTo, lowestAbove, atPlace};
+ghost use Rattle.rules.specs.Answers.{foundAt};
 
 // The index at which the record of a number puts its value.
 pub fn index_of(log: &[u8], number: usize) -> u64
@@ -41,18 +47,10 @@ pub fn is_below(log: &[u8], number: usize, index: u64) -> bool
     index_of(log, number) < index
 }
 
-// Whether the value of the record at place i is marked: its index is above that of every earlier value of its range.
-fn is_rising(work: &[u64], cap: usize, i: usize) -> bool
-    requires { ⌜ (32 * cap ≤ length (now work)) × ((i < cap) × (cap ≤ 4096)) ⌝ }
-    ensures { λ r. ⌜ r ≡ leb 16384 (getD (now (work .entry)) (8 * cap + i) 0) ⌝ }
-{
-    16384 <= work[8 * cap + i]
-}
-
 // Whether every earlier value of the range than that of the record at place i is known to be below the index.
 fn rest_below(log: &[u8], work: &[u64], cap: usize, i: usize, range: u64, index: u64) -> bool
     requires { ⌜ (368 * i + 368 ≤ length (now log)) × ((32 * cap ≤ length (now work)) × ((i < cap) × (cap ≤ 4096))) ⌝ }
-    ensures { λ r. ⌜ r ≡ leb 16384 (getD (now (work .entry)) (8 * cap + i) 0) && eqb (recordAt (now (log .entry)) i .a) range && leb (recordAt (now (log .entry)) i .b) index ⌝ }
+    ensures { λ r. ⌜ r ≡ leb 16384 (getD (now (work .entry)) (counts * cap + i) 0) && eqb (recordAt (now (log .entry)) i .a) range && leb (recordAt (now (log .entry)) i .b) index ⌝ }
 {
     let rec = record_at(log, i);
     is_rising(work, cap, i) & (a(rec) == range) & (b(rec) <= index)
@@ -116,7 +114,7 @@ pub fn greatest(
     ensures { λ r. ⌜ (r ≤ count) × (DescriptorsIndexed cap (hist (now (log .entry)) count) (now (work .entry)) → put (now (log .entry)) r ≡ greatestUpTo range free index any generation (standing (hist (now (log .entry)) count))) ⌝ }
 {
     let mut best = 0usize;
-    let mut i = link(work, 2 * cap + bucket_by(cap, range), count);
+    let mut i = standing_top(work, cap, bucket_by(cap, range), count);
     while 0 < i {
         i -= 1;
         let passes = is_up_to(record_at(log, i), range, free, index, any, generation);
@@ -124,7 +122,7 @@ pub fn greatest(
         if passes & is_rising(work, cap, i) {
             return best;
         }
-        i = link(work, 3 * cap + i, i);
+        i = standing_below(work, cap, i);
     }
     best
 }
@@ -153,7 +151,7 @@ pub fn lowest(
     ensures { λ r. ⌜ (r ≤ count) × (DescriptorsIndexed cap (hist (now (log .entry)) count) (now (work .entry)) → put (now (log .entry)) r ≡ lowestAbove range index any generation (standing (hist (now (log .entry)) count))) ⌝ }
 {
     let mut best = 0usize;
-    let mut i = link(work, 2 * cap + bucket_by(cap, range), count);
+    let mut i = standing_top(work, cap, bucket_by(cap, range), count);
     while 0 < i {
         i -= 1;
         let passes = is_above(record_at(log, i), range, index, any, generation);
@@ -161,7 +159,7 @@ pub fn lowest(
         if rest_below(log, work, cap, i, range, index) {
             return best;
         }
-        i = link(work, 3 * cap + i, i);
+        i = standing_below(work, cap, i);
     }
     best
 }
@@ -185,7 +183,7 @@ pub fn standing_at(
     requires { ⌜ Bounds (now log) (now work) count cap ⌝ }
     ensures { λ r. ⌜ (r ≤ count) × (DescriptorsIndexed cap (hist (now (log .entry)) count) (now (work .entry)) → put (now (log .entry)) r ≡ latestOf (atPlace range index) (standing (hist (now (log .entry)) count))) ⌝ }
 {
-    let mut i = link(work, 2 * cap + bucket_by(cap, range), count);
+    let mut i = standing_top(work, cap, bucket_by(cap, range), count);
     while 0 < i {
         i -= 1;
         if is_at(record_at(log, i), range, index) {
@@ -194,7 +192,7 @@ pub fn standing_at(
         if rest_below(log, work, cap, i, range, index) {
             return 0;
         }
-        i = link(work, 3 * cap + i, i);
+        i = standing_below(work, cap, i);
     }
     0
 }
@@ -218,13 +216,13 @@ pub fn first_of(
     requires { ⌜ Bounds (now log) (now work) count cap ⌝ }
     ensures { λ r. ⌜ (r ≤ count) × (DescriptorsIndexed cap (hist (now (log .entry)) count) (now (work .entry)) → put (now (log .entry)) r ≡ firstAtGeneration range generation (hist (now (log .entry)) count)) ⌝ }
 {
-    let mut i = link(work, 6 * cap + bucket_by_two(cap, range, generation), count);
+    let mut i = generation_top(work, cap, bucket_by_two(cap, range, generation), count);
     while 0 < i {
         i -= 1;
         if is_of(record_at(log, i), range, generation) {
             return i + 1;
         }
-        i = link(work, 7 * cap + i, i);
+        i = generation_below(work, cap, i);
     }
     0
 }

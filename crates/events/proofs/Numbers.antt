@@ -14,7 +14,7 @@ use Rattle.record.specs.declared.named.Node.the-variants.{Marked, Missing}
 use Rattle.record.specs.Records.{TraceRecord}
 use Rattle.rules.specs.History.{History}
 use Rattle.rules.specs.Events.{continues, eventAfter, events, sameNode, goesOn, stray}
-use Rattle.rules.proofs.Booleans.{never}
+use Rattle.record.proofs.Booleans.{never}
 use Rattle.rules.proofs.Events.{events-step, events-few}
 use Rattle.history.specs.Logs.{recordAt, hist}
 use Rattle.history.proofs.Logs.{hist-none, hist-less}

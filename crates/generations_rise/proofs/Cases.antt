@@ -3,9 +3,8 @@ use mathlib.Core.Path.{_≡_, refl, sym, ap, _∙_}
 use mathlib.Core.Bool.{Bool, true, false, _&&_}
 use mathlib.Core.List.{List, [], _∷_}
 use mathlib.Core.Option.{Option, none, some}
-use Prim.Native.Nat.{ℕ, suc, _+_, _*_, _-_, _≤_}
+use Prim.Native.Nat.{ℕ, suc, _-_}
 use native.Mathlib.Omega.{arith}
-use lib.ListN.{getD}
 use Rattle.record.specs.Keys.{keyEqb}
 use Rattle.record.specs.Records.{TraceRecord}
 use Rattle.rules.specs.declared.Case.{Case}
@@ -16,15 +15,14 @@ use Rattle.rules.specs.Cases.{fault, faultIf, caseOf}
 use Rattle.rules.specs.Descriptors.{spanOf}
 use Rattle.rules.specs.GenerationsRise.{Write, tellsWrite, sameWrite, writes, isEarlier, opposes, lastGeneration, riseFault, writeFault, generationsAt}
 use Rattle.rules.specs.Reports.{atLast, reportOf}
-use Rattle.rules.proofs.Booleans.{none-some}
+use Rattle.record.proofs.Booleans.{none-some}
 use Rattle.history.specs.Logs.{recordAt, hist}
-use Rattle.history.proofs.Cells.{cell-at}
-use Rattle.ids_unique.specs.Firsts.{firstWrite}
+use Rattle.firsts.specs.Columns.{firstWrite, writeOf}
 use Rattle.generations_rise.specs.declared.write.Written.the-variants.{Not, Unrated, Rated}
-use Rattle.generations_rise.specs.Writes.{generationBy, lastWriteAt, GenerationsIndexed}
-use Rattle.generations_rise.specs.Answers.{ratedAs, writtenOf, writtenAs, writeOf, against}
-use Rattle.generations_rise.proofs.Rising.{last-write-decides}
-use Rattle.generations_rise.proofs.Writes.{write-told, write-is}
+use Rattle.generations_rise.specs.Columns.{generationBy, lastWriteAt}
+use Rattle.generations_rise.specs.Answers.{ratedAs, writtenOf, writtenAs, against}
+use Rattle.rules.proofs.Rising.{last-write-decides}
+use Rattle.firsts.proofs.Writes.{write-told, write-is}
 use Rattle.generations_rise.proofs.KeyWrites.{LastIs, last-is}
 
 -- what a record's write is, by what it counts as
@@ -45,7 +43,8 @@ module _ (x : TraceRecord) (h : History) where
   unfolding writtenAs
   unrated-is e = go (firstWrite x h) refl e
     where
-      pick : (w : Write) (b : Option ℕ) → firstWrite x h ≡ some w → w .generation ≡ b → Unrated ≡ ratedAs b → (v : Write) × (firstWrite x h ≡ some v) × (v .generation ≡ none)
+      pick : (w : Write) (b : Option ℕ) → firstWrite x h ≡ some w → w .generation ≡ b → Unrated ≡ ratedAs b
+          → (v : Write) × (firstWrite x h ≡ some v) × (v .generation ≡ none)
       pick w none f d q = (w, f, d)
       pick w (some g) f d q = let z : _≡_ {A = ℕ} 0 1 = cc in absurd (omega arith)
 
@@ -57,7 +56,8 @@ module _ (x : TraceRecord) (h : History) where
   unfolding writtenAs
   rated-is {g} e = go (firstWrite x h) refl e
     where
-      pick : (w : Write) (b : Option ℕ) → firstWrite x h ≡ some w → w .generation ≡ b → Rated g ≡ ratedAs b → (v : Write) × (firstWrite x h ≡ some v) × (v .generation ≡ some g)
+      pick : (w : Write) (b : Option ℕ) → firstWrite x h ≡ some w → w .generation ≡ b → Rated g ≡ ratedAs b
+          → (v : Write) × (firstWrite x h ≡ some v) × (v .generation ≡ some g)
       pick w none f d q = let z : _≡_ {A = ℕ} 0 1 = cc in absurd (omega arith)
       pick w (some u) f d q = let z : u ≡ g = cc in (w, f, d ∙ ap some z)
 
@@ -90,7 +90,8 @@ module _ (x : TraceRecord) (h : History) where
   pub case-not : Not ≡ writtenAs x h → Clear ≡ generationsAt x h
   case-not e = none-case (not-is e)
 
-  pub case-unrated : {range index : ℕ} {r : Case} → range ≡ x .a → index ≡ x .b → r ≡ fault 1 (range ∷ index ∷ 0 ∷ 0 ∷ 0 ∷ []) → Unrated ≡ writtenAs x h → r ≡ generationsAt x h
+  pub case-unrated : {range index : ℕ} {r : Case} → range ≡ x .a → index ≡ x .b → r ≡ fault 1 (range ∷ index ∷ 0 ∷ 0 ∷ 0 ∷ [])
+      → Unrated ≡ writtenAs x h → r ≡ generationsAt x h
   case-unrated {range} {index} p q d e =
       let w = unrated-is e in
       let v : writeOf x h ≡ w .0 = write-is x h (w .1) in
@@ -142,19 +143,15 @@ module _ (x : TraceRecord) (g : ℕ) (log : List ℕ) (count : ℕ) (pass : repo
           → faultIf (opposes (x .a) g w) (told w) ≡ faultIf (against (x .a) g by v) (fault 2 (x .a ∷ x .b ∷ g ∷ v ∷ by ∷ []))
       weighed w r u = rw (u, r)
 
-  module _ {cap : ℕ} {work : List ℕ} (m : count ≤ cap) (i : GenerationsIndexed cap (hist log count) work) (z : n ≡ 0 → ⊥) (l : n ≤ count)
-      {range index by v : ℕ} (p : range ≡ x .a) (q : index ≡ x .b) (b : recordAt log (n - 1) .a ≡ by) (u : v ≡ getD work (13 * cap + (n - 1)) 0) where
-    word-is : v ≡ generationBy (recordAt log (n - 1)) (hist log (n - 1))
-    word-is = u ∙ i .written .word (n - 1) (omega arith) ∙ cell-at generationBy log count (n - 1) (omega arith)
-
+  module _ (z : n ≡ 0 → ⊥) {range index by v : ℕ} (p : range ≡ x .a) (q : index ≡ x .b) (b : recordAt log (n - 1) .a ≡ by)
+      (u : v ≡ generationBy (recordAt log (n - 1)) (hist log (n - 1))) where
     weighed-by : faultIf (against range g by v) (fault 2 (range ∷ index ∷ g ∷ v ∷ by ∷ [])) ≡ riseFault W g (writes (hist log count))
-    weighed-by = rw (p, q, ← b, word-is) (rise-found (n - 1) (omega arith))
+    weighed-by = rw (p, q, ← b, u) (rise-found (n - 1) (omega arith))
 
     pub rise-fault : {r : Case} → against range g by v ≡ true → r ≡ fault 2 (range ∷ index ∷ g ∷ v ∷ by ∷ []) → r ≡ riseFault W g (writes (hist log count))
     rise-fault t e = e ∙ sym (ap (λ (s : Bool). faultIf s (fault 2 (range ∷ index ∷ g ∷ v ∷ by ∷ []))) t) ∙ weighed-by
 
-  pub rise-clear : {cap : ℕ} {work : List ℕ} (m : count ≤ cap) (i : GenerationsIndexed cap (hist log count) work) (z : n ≡ 0 → ⊥) (l : n ≤ count)
-      {range by v : ℕ} → range ≡ x .a → recordAt log (n - 1) .a ≡ by → v ≡ getD work (13 * cap + (n - 1)) 0
-      → against range g by v ≡ false → Clear ≡ riseFault W g (writes (hist log count))
-  rise-clear m i z l {range} {by} {v} p b u t =
-      sym (ap (λ (s : Bool). faultIf s (fault 2 (range ∷ x .b ∷ g ∷ v ∷ by ∷ []))) t) ∙ weighed-by m i z l p refl b u
+  pub rise-clear : (n ≡ 0 → ⊥) → {range by v : ℕ} → range ≡ x .a → recordAt log (n - 1) .a ≡ by
+      → v ≡ generationBy (recordAt log (n - 1)) (hist log (n - 1)) → against range g by v ≡ false → Clear ≡ riseFault W g (writes (hist log count))
+  rise-clear z {range} {by} {v} p b u t =
+      sym (ap (λ (s : Bool). faultIf s (fault 2 (range ∷ x .b ∷ g ∷ v ∷ by ∷ []))) t) ∙ weighed-by z p refl b u

@@ -2,8 +2,8 @@
 use mathlib.Core.Path.{_≡_, refl, sym, ap, _∙_}
 use mathlib.Core.Bool.{Bool, true, false, _&&_}
 use mathlib.Core.List.{List, [], _∷_}
-use mathlib.Core.Option.{Option, none, some}
-use Prim.Native.Nat.{ℕ, zero, suc, _+_, _-_, _≤_, _<_}
+use mathlib.Core.Option.{Option, none, some, Option·some-injective}
+use Prim.Native.Nat.{ℕ, zero, suc, _+_, _*_, _-_, _≤_, _<_}
 use native.Mathlib.Omega.{arith}
 use native.Mathlib.Numerals.{add-one}
 use lib.ListN.{length, getD, drop, drop-of-length-le}
@@ -14,21 +14,24 @@ use Rattle.record.proofs.Keys.{listEqb-same}
 use Rattle.rules.specs.History.{History, when, given, isSome, holds, latestOf}
 use Rattle.rules.specs.Descriptors.{spanOf}
 use Rattle.rules.specs.GenerationsRise.{Write, writes, isEarlier, tellsWrite, sameWrite}
-use Rattle.rules.proofs.Booleans.{none-some}
+use Rattle.record.proofs.Booleans.{never, none-some}
 use Rattle.rules.proofs.Skips.{latestOf-nil, latestOf-hit, latestOf-skip, firsts-nil}
 use Rattle.history.specs.Logs.{recordAt, hist}
 use Rattle.history.specs.Columns.{latestIn}
+use Rattle.history.specs.Places.{writtenAt}
 use Rattle.history.proofs.Logs.{hist-none, hist-suc, hist-length}
-use Rattle.history.proofs.Tellings.{when-holds, when-value}
+use Rattle.rules.proofs.Tellings.{when-holds, when-value}
+use Rattle.history.proofs.Cells.{cell-at}
 use Rattle.history.proofs.Chains.{In, latest-here, latest-else}
 use Rattle.history.proofs.Walks.{look-less, look-end, look-outside}
-use Rattle.ids_unique.specs.Firsts.{firstWrite}
-use Rattle.generations_rise.specs.Writes.{ratedWrite, rolled, rolledAll, bucketByKey, keyBucket, generationBy, writesKey, lastWriteAt}
-use Rattle.generations_rise.specs.Answers.{writeOf}
-use Rattle.generations_rise.proofs.Writes.{write-is, writes-more, writes-same}
+use Rattle.firsts.specs.Columns.{firstWrite, writeOf}
+use Rattle.generations_rise.specs.Columns.{ratedWrite, rolled, rolledAll, bucketByKey, keyBucket}
+use Rattle.generations_rise.specs.Columns.{generationBy, writesKey, lastWriteAt, GenerationsIndexed}
+use Rattle.firsts.proofs.Writes.{write-is, writes-more, writes-same}
 
 -- one byte more of a key's number, and the end
-pub rolled-next : (k : List ℕ) (n : ℕ) {i n′ b x : ℕ} → i < length k → b ≡ getD k i 0 → n′ ≡ rolled n b → x ≡ rolledAll n (drop i k) → x ≡ rolledAll n′ (drop (i + 1) k)
+pub rolled-next : (k : List ℕ) (n : ℕ) {i n′ b x : ℕ} → i < length k → b ≡ getD k i 0 → n′ ≡ rolled n b → x ≡ rolledAll n (drop i k)
+    → x ≡ rolledAll n′ (drop (i + 1) k)
 unfolding rolledAll
 rolled-next k n {i} {n′} l e d y =
     y ∙ ap (rolledAll n) (drop-cons k i 0 l) ∙ ap (λ (v : ℕ). rolledAll (rolled n v) (drop (suc i) k)) (sym e)
@@ -40,7 +43,7 @@ rolled-end k {i} {n} l y = y ∙ ap (rolledAll n) (drop-of-length-le k l)
 
 module _ (x : TraceRecord) (h : History) where
   -- a write that has a generation is one that counts
-  pub rated-first : {w : Write} → ratedWrite x h ≡ some w → firstWrite x h ≡ some w
+  rated-first : {w : Write} → ratedWrite x h ≡ some w → firstWrite x h ≡ some w
   unfolding ratedWrite
   rated-first {w} e = go (firstWrite x h) e
     where
@@ -106,27 +109,20 @@ module _ (key : Key) (x : TraceRecord) (h : History) where
   tells-key e t = rw (e, t)
 
   -- not by a record with no such write, by one of another key, or outside the bucket
-  pub key-pass : ratedWrite x h ≡ none → lastWriteAt key (x ∷ h) ≡ lastWriteAt key h
+  key-pass : ratedWrite x h ≡ none → lastWriteAt key (x ∷ h) ≡ lastWriteAt key h
   key-pass e = latest-else (writesKey key) 0 x h (λ z. none-some (sym e ∙ key-told z .1))
 
-  pub key-differs : {w : Write} → ratedWrite x h ≡ some w → keyEqb (w .key) key ≡ false → lastWriteAt key (x ∷ h) ≡ lastWriteAt key h
+  key-differs : {w : Write} → ratedWrite x h ≡ some w → keyEqb (w .key) key ≡ false → lastWriteAt key (x ∷ h) ≡ lastWriteAt key h
   key-differs {w} e t =
       latest-else (writesKey key) 0 x h
-      (λ z. let k = key-told z in
-      let q : k .0 ≡ w = inside (sym (k .1) ∙ e) in
-      let y : true ≡ false = sym (k .2) ∙ ap (λ (v : Write). keyEqb (v .key) key) q ∙ t in
-      let u : _≡_ {A = ℕ} 0 1 = cc in
-      omega arith)
-    where
-      inside : {a b : Write} → some a ≡ some b → a ≡ b
-      inside q = cc
+      (λ z. let k = key-told z in never (k .2) (ap (λ (v : Write). keyEqb (v .key) key) (Option·some-injective (k .0) w (sym (k .1) ∙ e)) ∙ t))
 
-  pub key-outside : (cap : ℕ) → (keyBucket cap x h ≡ some (bucketByKey cap key) → ⊥) → lastWriteAt key (x ∷ h) ≡ lastWriteAt key h
+  key-outside : (cap : ℕ) → (keyBucket cap x h ≡ some (bucketByKey cap key) → ⊥) → lastWriteAt key (x ∷ h) ≡ lastWriteAt key h
   key-outside cap n =
       latest-else (writesKey key) 0 x h
       (λ z. let k = key-told z in n (key-in x h cap (k .1) ∙ ap (λ (v : Key). some (bucketByKey cap v)) (listEqb-same (k .0 .key) key (k .2))))
 
-  pub key-here : {w : Write} → ratedWrite x h ≡ some w → keyEqb (w .key) key ≡ true → lastWriteAt key (x ∷ h) ≡ suc (length h)
+  key-here : {w : Write} → ratedWrite x h ≡ some w → keyEqb (w .key) key ≡ true → lastWriteAt key (x ∷ h) ≡ suc (length h)
   key-here e t = latest-here (writesKey key) 0 x h (tells-key e t)
 
 -- a walk along the key's chain
@@ -137,7 +133,8 @@ module _ (key : Key) (log : List ℕ) where
   pub last-skip : (cap k : ℕ) → (In (keyBucket cap) (bucketByKey cap key) log k → ⊥) → lastWriteAt key (hist log (suc k)) ≡ lastWriteAt key (hist log k)
   last-skip cap = look-outside (lastWriteAt key) (keyBucket cap) (bucketByKey cap key) log (λ x h n. key-outside key x h cap n)
 
-  pub last-hit : (cap : ℕ) {i b : ℕ} → 0 < i → In (keyBucket cap) b log (i - 1) → startsWith key (recordAt log (i - 1)) ≡ true → lastWriteAt key (hist log i) ≡ i
+  pub last-hit : (cap : ℕ) {i b : ℕ} → 0 < i → In (keyBucket cap) b log (i - 1) → startsWith key (recordAt log (i - 1)) ≡ true
+      → lastWriteAt key (hist log i) ≡ i
   last-hit cap {i} l m t =
       let n : length (hist log (i - 1)) ≡ i - 1 = hist-length log (i - 1) in
       look-less (lastWriteAt key) log i l
@@ -204,3 +201,8 @@ none-last key log = ap (latestOf (isEarlier key)) (firsts-nil tellsWrite sameWri
 pub last-is : (key : Key) (log : List ℕ) (n : ℕ) → LastIs log (latestOf (isEarlier key) (writes (hist log n))) (lastWriteAt key (hist log n))
 last-is key log zero = rw (hist-none log) (none-last key log)
 last-is key log (suc n) = rw (hist-suc log n) (last-step key log n (last-is key log n))
+
+-- the word of the record at a place
+pub written-is : (log : List ℕ) {cap count at : ℕ} {work : List ℕ} → at < count → count ≤ cap → GenerationsIndexed cap (hist log count) work
+    → getD work (writtenAt * cap + at) 0 ≡ generationBy (recordAt log at) (hist log at)
+written-is log {count = count} {at = at} l m i = i .written .word at (omega arith) ∙ cell-at generationBy log count at l

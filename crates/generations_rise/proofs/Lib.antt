@@ -1,5 +1,4 @@
 -- The laws that the proofs of this crate cite, by topic.
-pub mod Rising
 pub mod Writes
 pub mod KeyWrites
 pub mod Cases

@@ -8,10 +8,9 @@ use Rattle.record.specs.Records.{TraceRecord}
 use Rattle.rules.specs.declared.Found.{Found}
 use Rattle.rules.specs.declared.Found.the-variants.{At, Nothing}
 use Rattle.rules.specs.History.{History}
-use Rattle.rules.specs.Descriptors.{spanOf, before}
-use Rattle.rules.specs.GenerationsRise.{Write, generationOf}
+use Rattle.rules.specs.GenerationsRise.{Write}
 use Rattle.history.specs.Logs.{recordAt}
-use Rattle.ids_unique.specs.Firsts.{firstWrite}
+use Rattle.firsts.specs.Columns.{firstWrite}
 use Rattle.generations_rise.specs.declared.write.Written.{Written}
 use Rattle.generations_rise.specs.declared.write.Written.the-variants.{Not, Unrated, Rated}
 
@@ -27,19 +26,11 @@ writtenOf (some w) = ratedAs (w .generation)
 unfoldable pub writtenAs : TraceRecord → History → Written
 writtenAs x h = writtenOf (firstWrite x h)
 
--- the write of a record, whether it counts or not
-abbrev pub writeOf : TraceRecord → History → Write
-writeOf x h = record { range = x .a; index = x .b; key = spanOf 0 x .start; generation = generationOf (before (x .a) (x .b) h) }
-
 -- the generation of the record that `before` found among count
 unfoldable pub foundGeneration : List ℕ → ℕ → Found → Written
 foundGeneration log count Nothing = Unrated
 foundGeneration log count (At zero) = Unrated
 foundGeneration log count (At (suc k)) = cond (ltb k count) (Rated (recordAt log k .d)) Unrated
-
--- a write at a range and index
-abbrev pub placed : ℕ → ℕ → Write → Bool
-placed range index o = eqb range (o .range) && eqb index (o .index)
 
 -- "a higher generation, or another range and the same generation"
 abbrev pub against : ℕ → ℕ → ℕ → ℕ → Bool

@@ -2,12 +2,13 @@
 use crate::key::bucket_by_key;
 use crate::write::Written;
 use crate::write::counts_as;
-use history::bucket::bucket_by_two;
+use firsts::note::enter_write;
 use history::chain::enter;
 use history::chain::put;
+use history::place::KEY_HEADS;
+use history::place::KEY_LINKS;
+use history::place::WRITTEN_AT;
 use history::span::start_of;
-use record::field::a;
-use record::field::b;
 ghost use mathlib.Core.Path.{_≡_};
 ghost use Prim.Native.Nat.{_*_, _≤_, _<_};
 ghost use lib.ListN.{length};
@@ -15,20 +16,14 @@ ghost use Rattle.record.specs.Records.{decode};
 ghost use Rattle.rules.specs.History.{History};
 ghost use Rattle.history.specs.Bounds.{Bounds};
 ghost use Rattle.history.specs.Logs.{hist};
-ghost use Rattle.generations_rise.specs.Noted.{GenerationsNoted, GenerationsTaken};
+ghost use Rattle.generations_rise.specs.Columns.{GenerationsNoted, GenerationsTaken};
 
 // A write that counts and has no generation.
 fn note_unrated(work: &mut [u64], count: usize, cap: usize, rec: &[u8])
     requires { ⌜ (32 * cap ≤ length (now work)) × ((count < cap) × ((cap ≤ 4096) × (length (now rec) ≡ 368))) ⌝ }
     ensures { λ _. ⌜ ((h : History) → length h ≡ count → GenerationsNoted cap h (decode (now (rec .entry))) Written.Unrated (now (work .entry)) (now (work .exit))) ⌝ }
 {
-    enter(
-        work,
-        9 * cap,
-        10 * cap,
-        count,
-        bucket_by_two(cap, a(rec), b(rec)),
-    );
+    enter_write(work, count, cap, rec);
 }
 
 // A write that counts at a generation.
@@ -36,21 +31,15 @@ fn note_rated(work: &mut [u64], count: usize, cap: usize, rec: &[u8], generation
     requires { ⌜ (32 * cap ≤ length (now work)) × ((count < cap) × ((cap ≤ 4096) × (length (now rec) ≡ 368))) ⌝ }
     ensures { λ _. ⌜ ((h : History) → length h ≡ count → GenerationsNoted cap h (decode (now (rec .entry))) (Written.Rated generation) (now (work .entry)) (now (work .exit))) ⌝ }
 {
+    enter_write(work, count, cap, rec);
     enter(
         work,
-        9 * cap,
-        10 * cap,
-        count,
-        bucket_by_two(cap, a(rec), b(rec)),
-    );
-    enter(
-        work,
-        11 * cap,
-        12 * cap,
+        KEY_HEADS * cap,
+        KEY_LINKS * cap,
         count,
         bucket_by_key(cap, start_of(rec, 0)),
     );
-    put(work, 13 * cap + count, generation);
+    put(work, WRITTEN_AT * cap + count, generation);
 }
 
 // Takes a record whose write counts as w, after those taken, into the columns of `GenerationsRise`.

@@ -1,7 +1,8 @@
-// The writes that count: the first Applied write with a key at each range and index, at the generation of `before`.
+// The writes that count: the first Applied write with a key at each range and index, at the generation of `before`; and a
+// key's last one.
+use crate::cells::last_write_at;
 use descriptors::value::before;
-use history::bucket::bucket_by_two;
-use history::chain::link;
+use firsts::cells::is_counted;
 use history::log::record_at;
 use record::field::a;
 use record::field::b;
@@ -13,17 +14,20 @@ use rules::Found;
 ghost use mathlib.Core.Path.{_≡_};
 ghost use mathlib.Core.Bool.{false, _&&_};
 ghost use Prim.Native.Nat.{_*_, _≤_};
-ghost use lib.Dec.{eqb, leb};
+ghost use lib.Dec.{leb};
 ghost use lib.ListN.{length};
+ghost use Rattle.record.specs.Keys.{keyIn};
 ghost use Rattle.record.specs.Records.{decode};
 ghost use Rattle.record.specs.declared.named.ApplyEffect.the-variants.{Applied};
-ghost use Rattle.rules.specs.History.{isKind, anyOf};
-ghost use Rattle.rules.specs.GenerationsRise.{hasEffect, writes};
+ghost use Rattle.rules.specs.History.{isKind};
+ghost use Rattle.rules.specs.GenerationsRise.{hasEffect};
 ghost use Rattle.history.specs.Bounds.{Bounds};
 ghost use Rattle.history.specs.Logs.{hist};
-ghost use Rattle.ids_unique.specs.Firsts.{FirstsIndexed};
-ghost use Rattle.descriptors.specs.Index.{DescriptorsIndexed};
-ghost use Rattle.generations_rise.specs.Answers.{writtenAs, foundGeneration, placed};
+ghost use Rattle.firsts.specs.Columns.{FirstsIndexed};
+ghost use Rattle.rules.specs.Answers.{foundAt};
+ghost use Rattle.descriptors.specs.Columns.{DescriptorsIndexed};
+ghost use Rattle.generations_rise.specs.Columns.{GenerationsIndexed, lastWriteAt};
+ghost use Rattle.generations_rise.specs.Answers.{writtenAs, foundGeneration};
 
 // What a record's write counts as: none that counts, one that has no generation, one at a generation.
 pub enum Written {
@@ -38,37 +42,6 @@ fn is_write(rec: &[u8]) -> bool
     ensures { λ r. ⌜ r ≡ hasEffect Applied (decode (now (rec .entry))) && leb 1 (length (decode (now (rec .entry)) .spans)) ⌝ }
 {
     (kind(rec) == 3) & (code(rec) == 1) & (1 <= span_count(rec))
-}
-
-// Whether a record is a RaftApply at a range and index.
-fn is_placed(rec: &[u8], range: u64, index: u64) -> bool
-    requires { ⌜ length (now rec) ≡ 368 ⌝ }
-    ensures { λ r. ⌜ r ≡ isKind 3 (decode (now (rec .entry))) && (eqb range (decode (now (rec .entry)) .a) && eqb index (decode (now (rec .entry)) .b)) ⌝ }
-{
-    (kind(rec) == 3) & ((range == a(rec)) & (index == b(rec)))
-}
-
-// Whether a write at a range and index counted before.
-pub fn is_counted(
-    log: &[u8],
-    work: &[u64],
-    count: usize,
-    cap: usize,
-    range: u64,
-    index: u64,
-) -> bool
-    requires { ⌜ Bounds (now log) (now work) count cap ⌝ }
-    ensures { λ r. ⌜ (FirstsIndexed cap (hist (now (log .entry)) count) (now (work .entry)) → r ≡ anyOf (placed range index) (writes (hist (now (log .entry)) count))) ⌝ }
-{
-    let mut i = link(work, 9 * cap + bucket_by_two(cap, range, index), count);
-    while 0 < i {
-        let at = i - 1;
-        if is_placed(record_at(log, at), range, index) {
-            return true;
-        }
-        i = link(work, 10 * cap + at, at);
-    }
-    false
 }
 
 // The generation of the value that was found.
@@ -111,4 +84,16 @@ pub fn counts_as(log: &[u8], work: &[u64], count: usize, cap: usize, rec: &[u8])
         return Written::Not;
     }
     generation_of(log, count, before(log, work, count, cap, range, index))
+}
+
+// The record with the last write of the key in a place, as a look-up's answer.
+pub fn last_write(log: &[u8], work: &[u64], count: usize, cap: usize, place: &[u8]) -> Found
+    requires { ⌜ Bounds (now log) (now work) count cap ⌝ }
+    ensures { λ r. ⌜ (GenerationsIndexed cap (hist (now (log .entry)) count) (now (work .entry)) → r ≡ foundAt (lastWriteAt (keyIn (now (place .entry))) (hist (now (log .entry)) count))) ⌝ }
+{
+    let n = last_write_at(log, work, count, cap, place);
+    if n == 0 {
+        return Found::Nothing;
+    }
+    Found::At(n as u64)
 }

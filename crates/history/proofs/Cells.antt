@@ -55,9 +55,6 @@ module _ (g : TraceRecord → History → ℕ) where
 pub record Same (base cap : ℕ) (work work′ : List ℕ) : Type 0 where
   pub word : (k : ℕ) → k < cap → getD work′ (base + k) 0 ≡ getD work (base + k) 0
 
-pub same-refl : {base cap : ℕ} {work : List ℕ} → Same base cap work work
-same-refl = record { word = λ k l. refl }
-
 pub same-then : {base cap : ℕ} {work mid work′ : List ℕ} → Same base cap work mid → Same base cap mid work′ → Same base cap work work′
 same-then a b = record { word = λ k l. b .word k l ∙ a .word k l }
 

@@ -2,9 +2,7 @@
 pub mod Logs
 pub mod Cells
 pub mod Chains
-pub mod Tellings
 pub mod Queries
 pub mod Walks
 pub mod Copies
 pub mod Mixing
-pub mod Spans

@@ -74,10 +74,6 @@ module _ {log log′ bytes : List ℕ} {n : ℕ} (a : Appended log log′ n byte
   pub appended-below : (k : ℕ) → k ≤ n → hist log′ k ≡ hist log k
   appended-below k l = hist-agrees log′ log k (a .len) (λ j m. a .others j (λ x y. omega arith))
 
-  pub appended-at : (k : ℕ) → k < n → recordAt log′ k ≡ recordAt log k
-  unfolding recordAt
-  appended-at k l = ap decode (bytes-agree log′ log k (a .len) (λ j u v. a .others j (λ x y. omega arith)))
-
   pub appended-record : recordAt log′ n ≡ decode bytes
   unfolding recordAt
   appended-record = ap decode (a .here)

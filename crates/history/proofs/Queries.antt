@@ -8,9 +8,9 @@ use Prim.Native.Nat.{ℕ, _≤_, _<_}
 use native.Mathlib.Omega.{arith}
 use lib.Dec.{ltb}
 use borrow.Author.Tests.{ltb-true, ltb-false, lt-ltb, le-ltb}
-use Rattle.rules.proofs.Skips.{anyOf-skip, those-skip, latestOf-skip, earliestOf-skip, greatestOf-skip, lowestOf-skip}
+use Rattle.rules.proofs.Skips.{latestOf-skip, earliestOf-skip, greatestOf-skip, lowestOf-skip}
 use Rattle.history.specs.Weighing.{weigh, weighOf, greaterOf, lowerOf, greatestStep, lowestStep}
-use Rattle.rules.specs.History.{when, orElse, anyOf, those, latestOf, earliestOf, greater, greatestOf, lower, lowestOf}
+use Rattle.rules.specs.History.{when, orElse, latestOf, earliestOf, greater, greatestOf, lower, lowestOf}
 
 -- a question that only elements that pass can change
 pub record Ignores {A B : Type 0} (p : A → Bool) (Q : List A → B) : Type 0 where
@@ -21,12 +21,6 @@ pub ignores-then : {A B C : Type 0} {p : A → Bool} {Q : List A → B} (F : B �
 ignores-then F q = record { other = λ v xs e. ap F (q .other v xs e) }
 
 module _ {A : Type 0} (p : A → Bool) where
-  pub any-ignores : Ignores p (anyOf p)
-  any-ignores = record { other = anyOf-skip p }
-
-  pub those-ignores : Ignores p (those p)
-  those-ignores = record { other = those-skip p }
-
   pub latest-ignores : Ignores p (latestOf p)
   latest-ignores = record { other = latestOf-skip p }
 
@@ -47,10 +41,6 @@ module _ {A : Type 0} (p : A → Bool) where
   or-assoc : (a b c : Bool) → a || (b || c) ≡ (a || b) || c
   or-assoc true b c = refl
   or-assoc false b c = refl
-
-  pub any-turns : Turns _||_ (λ found v. found || p v) (anyOf p)
-  unfolding anyOf
-  any-turns = record { turn = λ found v xs. or-assoc found (p v) (anyOf p xs) }
 
   -- the earliest: each that passes replaces the one found before
   abbrev pub earliestStep : Option A → A → Option A

@@ -12,7 +12,7 @@ use Rattle.rules.proofs.Skips.{latest-hit, latest-skip, told-hit, told-skip}
 use Rattle.history.specs.Logs.{recordAt, hist}
 use Rattle.history.proofs.Logs.{hist-none, hist-less, hist-suc}
 use Rattle.history.proofs.Chains.{In}
-use Rattle.history.proofs.Tellings.{fresh, tells-none, firsts-afresh}
+use Rattle.rules.proofs.Tellings.{fresh, tells-none, firsts-afresh}
 use Rattle.history.proofs.Queries.{Ignores, Turns}
 
 -- any look-back, at the record before i
@@ -98,10 +98,6 @@ module _ {A : Type 0} (same : A → A → Bool) (tells : Tells A) (log : List �
       → firsts same tells (hist log i) ≡ v ∷ firsts same tells (hist log (i - 1))
   firsts-found l e = rw (firsts-afresh same tells (hist log i), firsts-afresh same tells (hist log (i - 1))) (told-found (fresh same tells) log l e)
 
-  pub firsts-passed : 0 < i → fresh same tells (recordAt log (i - 1)) (hist log (i - 1)) ≡ none
-      → firsts same tells (hist log i) ≡ firsts same tells (hist log (i - 1))
-  firsts-passed l e = rw (firsts-afresh same tells (hist log i), firsts-afresh same tells (hist log (i - 1))) (told-passed (fresh same tells) log l e)
-
   pub firsts-end : i ≡ 0 → firsts same tells (hist log i) ≡ []
   unfolding firsts
   firsts-end e = look-end (firsts same tells) log e
@@ -111,12 +107,6 @@ pub firsts-outside : {A B : Type 0} {p : A → Bool} {Q : List A → B} (q : Ign
     → (k : ℕ) → (In f b log k → ⊥) → Q (firsts same tells (hist log (suc k))) ≡ Q (firsts same tells (hist log k))
 firsts-outside {Q = Q} q same tells f b log s k n =
     ap Q (firsts-afresh same tells (hist log (suc k))) ∙ told-outside q (fresh same tells) f b log s k n ∙ ap Q (sym (firsts-afresh same tells (hist log k)))
-
-pub firsts-turn : {A B C : Type 0} {join : C → B → B} {step : C → A → C} {Q : List A → B} (t : Turns join step Q) (same : A → A → Bool) (tells : Tells A)
-    (log : List ℕ) (i : ℕ) {found found′ : C} → 0 < i → found′ ≡ stepBy step found (fresh same tells (recordAt log (i - 1)) (hist log (i - 1)))
-    → join found (Q (firsts same tells (hist log i))) ≡ join found′ (Q (firsts same tells (hist log (i - 1))))
-firsts-turn {join = join} {Q = Q} t same tells log i {found} {found′} l e =
-    rw (firsts-afresh same tells (hist log i), firsts-afresh same tells (hist log (i - 1))) (told-turn t (fresh same tells) log i l e)
 
 -- a look-back as of an earlier count, along a chain of today: what is above the top is passed over
 abbrev pub upTo : {A : Type 0} → ℕ → (ℕ → A) → ℕ → A

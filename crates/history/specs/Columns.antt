@@ -1,9 +1,9 @@
 -- The work area as columns of C words, each a written function of the history, and chains of records through two of them.
 use mathlib.Core.Path.{_≡_}
-use mathlib.Core.Bool.{Bool, true, false, cond}
+use mathlib.Core.Bool.{cond}
 use mathlib.Core.List.{List, [], _∷_}
 use mathlib.Core.Option.{Option, none, some}
-use Prim.Native.Nat.{ℕ, _+_, _*_, _<_, _≤_}
+use Prim.Native.Nat.{ℕ, _+_, _<_}
 use lib.ListN.{length, getD}
 use lib.Dec.{eqb, ltb}
 use Rattle.record.specs.Records.{TraceRecord}

@@ -4,4 +4,5 @@ pub mod bucket;
 pub mod chain;
 pub mod held;
 pub mod log;
+pub mod place;
 pub mod span;

@@ -11,18 +11,20 @@ use Rattle.rules.specs.History.{History, when, given, those, firsts}
 use Rattle.rules.specs.IdsUnique.{Grant, grantBy, nonempty, firstGrants, blocksOf}
 use Rattle.history.specs.Logs.{recordAt, hist}
 use Rattle.history.specs.Columns.{Column, cellOf, latestIn, clamp}
+use Rattle.history.specs.Places.{blockLinks, greatestLast}
 use Rattle.history.proofs.Logs.{hist-less}
-use Rattle.history.proofs.Tellings.{when-value, when-holds}
+use Rattle.rules.proofs.Tellings.{when-value, when-holds}
 use Rattle.history.proofs.Cells.{cell-at}
 use Rattle.history.proofs.Chains.{In, Stands, latest-bound, latest-in, skip, clamped}
 use Rattle.history.proofs.Walks.{look-less, look-end, look-outside}
-use Rattle.ids_unique.specs.Firsts.{firstGrant}
-use Rattle.ids_unique.specs.Blocks.{tellsBlock, blockBucket, latestBlock, greatestOfLasts, IdsIndexed}
-use Rattle.ids_unique.proofs.Firsts.{never, grant-is, grants-more, grants-same}
+use Rattle.firsts.specs.Columns.{firstGrant}
+use Rattle.ids_unique.specs.Columns.{tellsBlock, blockBucket, latestBlock, greatestOfLasts, IdsIndexed}
+use Rattle.record.proofs.Booleans.{none-some}
+use Rattle.firsts.proofs.Grants.{grant-is, grants-more, grants-same}
 
 module _ (x : TraceRecord) (h : History) where
   -- a block is a first grant that is not empty
-  pub block-first : {g : Grant} → tellsBlock x h ≡ some g → firstGrant x h ≡ some g
+  block-first : {g : Grant} → tellsBlock x h ≡ some g → firstGrant x h ≡ some g
   unfolding tellsBlock
   block-first {g} e = go (firstGrant x h) e
     where
@@ -33,12 +35,12 @@ module _ (x : TraceRecord) (h : History) where
   pub block-is : {g : Grant} → tellsBlock x h ≡ some g → grantBy x ≡ g
   block-is e = grant-is x h (block-first e)
 
-  pub block-full : {g : Grant} → tellsBlock x h ≡ some g → nonempty g ≡ true
+  block-full : {g : Grant} → tellsBlock x h ≡ some g → nonempty g ≡ true
   unfolding tellsBlock
   block-full {g} e = go (firstGrant x h) e
     where
       go : (o : Option Grant) → given (λ v. when (nonempty v) v) o ≡ some g → nonempty g ≡ true
-      go none q = absurd (never q)
+      go none q = none-some q
       go (some v) q = rw (← when-value (nonempty v) v q) (when-holds (nonempty v) v q)
 
   pub block-none : firstGrant x h ≡ none → tellsBlock x h ≡ none
@@ -63,7 +65,7 @@ module _ (x : TraceRecord) (h : History) where
   in-block {b} e = go (tellsBlock x h) refl
     where
       go : (o : Option Grant) → tellsBlock x h ≡ o → tellsBlock x h ≡ some (grantBy x)
-      go none q = absurd (never (rw q at e))
+      go none q = none-some (rw q at e)
       go (some g) q = q ∙ ap some (sym (block-is q))
 
   pub not-block : (blockBucket x h ≡ some 0 → ⊥) → tellsBlock x h ≡ none
@@ -83,7 +85,7 @@ module _ (x : TraceRecord) (h : History) where
   blocks-same e = go (firstGrant x h) refl
     where
       pass : (v : Grant) (t : Bool) → nonempty v ≡ t → when t v ≡ none → those nonempty (v ∷ firstGrants h) ≡ those nonempty (firstGrants h)
-      pass v true q d = absurd (never (sym d))
+      pass v true q d = none-some (sym d)
       pass v false q d = rw q
 
       go : (o : Option Grant) → firstGrant x h ≡ o → those nonempty (firstGrants (x ∷ h)) ≡ those nonempty (firstGrants h)
@@ -117,11 +119,11 @@ module _ (log : List ℕ) {cap count n : ℕ} {work : List ℕ} (l : n ≤ count
   column-at L base c p =
       c .word (n - 1) (omega arith) ∙ cell-at (λ x h. L (x ∷ h)) log count (n - 1) (omega arith) ∙ ap L (sym (hist-less log n p))
 
-  pub link-is : 0 < n → clamp (getD work (14 * cap + (n - 1)) 0) n ≡ latestBlock (hist log n)
-  link-is p = clamped _ (latestBlock (hist log n)) n (column-at latestBlock (14 * cap) (k .links) p) (latest-bound blockBucket 0 log n)
+  pub link-is : 0 < n → clamp (getD work (blockLinks * cap + (n - 1)) 0) n ≡ latestBlock (hist log n)
+  link-is p = clamped _ (latestBlock (hist log n)) n (column-at latestBlock (blockLinks * cap) (k .links) p) (latest-bound blockBucket 0 log n)
 
-  pub last-is : 0 < n → getD work (15 * cap + (n - 1)) 0 ≡ greatestOfLasts (blocksOf (hist log n))
-  last-is p = column-at (λ h. greatestOfLasts (blocksOf h)) (15 * cap) (k .lasts) p
+  pub last-is : 0 < n → getD work (greatestLast * cap + (n - 1)) 0 ≡ greatestOfLasts (blocksOf (hist log n))
+  last-is p = column-at (λ h. greatestOfLasts (blocksOf h)) (greatestLast * cap) (k .lasts) p
 
   pub link-none : n ≡ 0 → 0 ≡ latestBlock (hist log n)
   unfolding latestIn

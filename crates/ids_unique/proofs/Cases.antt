@@ -16,10 +16,10 @@ use Rattle.rules.specs.IdsUnique.{Grant, grantBy, grantEqb, sameIndex, firstGra
 use Rattle.history.specs.Logs.{bytesAt, recordAt, hist}
 use Rattle.history.proofs.Logs.{record-bytes}
 use Rattle.ids_unique.specs.declared.block.Shared.{Shared}
-use Rattle.ids_unique.specs.Firsts.{firstGrantAt}
-use Rattle.ids_unique.specs.Blocks.{greatestOfLasts}
+use Rattle.firsts.specs.Columns.{firstGrantAt}
+use Rattle.ids_unique.specs.Columns.{greatestOfLasts}
 use Rattle.ids_unique.specs.Sharing.{weighAll}
-use Rattle.ids_unique.proofs.Firsts.{grantNumbered, latest-grant}
+use Rattle.firsts.proofs.Grants.{grantNumbered, latest-grant}
 use Rattle.ids_unique.proofs.Sharing.{shared-case, above-all}
 
 -- a first grant: empty; above every block; or as the walk says
@@ -73,7 +73,7 @@ module _ (x : TraceRecord) where
       let q : eqb (x .kind) 11 ≡ false = ne-eqb (x .kind) 11 (λ z. n (e ∙ z)) in
       rw q
 
-  pub grant-case : {k : ℕ} (h : History) (o : Option Grant) → k ≡ x .kind → k ≡ 11 → latestOf (sameIndex (grantBy x)) (firstGrants h) ≡ o
+  grant-case : {k : ℕ} (h : History) (o : Option Grant) → k ≡ x .kind → k ≡ 11 → latestOf (sameIndex (grantBy x)) (firstGrants h) ≡ o
       → idsAt x h ≡ grantFault (grantBy x) o (blocksOf h)
   unfolding idsAt
   grant-case h o e n q =

@@ -12,19 +12,16 @@ use Rattle.record.specs.Records.{TraceRecord}
 use Rattle.rules.specs.History.{History, isKind, isSome, anyOf}
 use Rattle.rules.specs.IdsUnique.{Grant, grantBy, nonempty, sameIndex, firstGrants, blocksOf}
 use Rattle.history.specs.Logs.{hist}
-use Rattle.history.specs.Columns.{Put, Entered}
+use Rattle.history.specs.Columns.{Put}
+use Rattle.history.specs.Places.{blockLinks, greatestLast}
 use Rattle.history.proofs.Logs.{hist-length}
 use Rattle.history.proofs.Cells.{put-apart, column-agrees, column-put}
-use Rattle.history.proofs.Chains.{latest-here, latest-else, chained-agrees, entered, not-entered}
-use Rattle.history.specs.Buckets.{bucketBy}
-use Rattle.ids_unique.specs.Firsts.{firstGrant, FirstsIndexed, firstGrantAt}
-use Rattle.ids_unique.specs.Blocks.{tellsBlock, blockBucket, latestBlock, blockLink, greatestOfLasts, lastAfter, IdsIndexed}
-use Rattle.ids_unique.specs.Noted.{Marked, IdsNoted}
-use Rattle.ids_unique.proofs.Firsts.{never, grant-is, no-grant, no-write, grant-known, grant-new, grant-in, first-none, grantNumbered, any-grant}
+use Rattle.history.proofs.Chains.{latest-here, latest-else, chained-agrees, not-entered}
+use Rattle.firsts.specs.Columns.{firstGrant, FirstsIndexed, firstGrantAt, FirstEntered}
+use Rattle.ids_unique.specs.Columns.{tellsBlock, blockBucket, latestBlock, blockLink, greatestOfLasts, lastAfter, IdsIndexed, Marked, IdsNoted}
+use Rattle.record.proofs.Booleans.{never, none-some}
+use Rattle.firsts.proofs.Grants.{grant-is, no-grant, no-write, grant-known, grant-new, first-none, grantNumbered, any-grant}
 use Rattle.ids_unique.proofs.Blocks.{block-is, block-none, block-empty, block-new, block-in, in-block, blocks-more, blocks-same}
-
-pub false-true : _≡_ {A = Bool} false true → ⊥
-false-true e = let z : _≡_ {A = ℕ} 0 1 = cc in omega arith
 
 -- whether a record has a first grant: no other kind; an index that has none before; one that has
 module _ (x : TraceRecord) where
@@ -48,14 +45,10 @@ module _ (x : TraceRecord) where
         numbered zero y = absurd (y refl)
         numbered (suc m) y = refl
 
--- what is known of an Option by whether there is a value
-some-of : {A : Type 0} (o : Option A) → true ≡ isSome o → (a : A) × (o ≡ some a)
-some-of none e = let z : _≡_ {A = ℕ} 0 1 = cc in absurd (omega arith)
-some-of (some a) e = (a, refl)
-
+-- nothing is told, where it is found that nothing is
 none-of : {A : Type 0} (o : Option A) → false ≡ isSome o → o ≡ none
 none-of none e = refl
-none-of (some a) e = let z : _≡_ {A = ℕ} 0 1 = cc in absurd (omega arith)
+none-of (some a) e = never e refl
 
 module _ (x : TraceRecord) (h : History) where
   -- a record has a block where it has a first grant that is not empty
@@ -73,7 +66,7 @@ module _ (x : TraceRecord) (h : History) where
   link-next {block} {below} {n} e l b = rw e (go (tellsBlock x h) refl)
     where
       go : (o : Option Grant) → tellsBlock x h ≡ o → cond (isSome o) (n + 1) below ≡ blockLink x h
-      go none q = b ∙ sym (latest-else blockBucket 0 x h (λ z. never (sym q ∙ in-block x h z)))
+      go none q = b ∙ sym (latest-else blockBucket 0 x h (λ z. none-some (sym q ∙ in-block x h z)))
       go (some g) q = omega (arith, latest-here blockBucket 0 x h (block-in x h q))
 
   last-next : {block : Bool} {last top : ℕ} → block ≡ isSome (tellsBlock x h) → last ≡ x .e → top ≡ greatestOfLasts (blocksOf h)
@@ -90,7 +83,7 @@ pub marked : {cap count last below top v w : ℕ} {block : Bool} {work mid work�
     → ((log : List ℕ) → IdsIndexed cap (hist log count) work → below ≡ latestBlock (hist log count))
     → ((log : List ℕ) → IdsIndexed cap (hist log count) work → top ≡ greatestOfLasts (blocksOf (hist log count)))
     → v ≡ cond block (count + 1) below → w ≡ cond block (max last top) top
-    → Put work mid (14 * cap + count) v → Put mid work′ (15 * cap + count) w → Marked cap count block last work work′
+    → Put work mid (blockLinks * cap + count) v → Put mid work′ (greatestLast * cap + count) w → Marked cap count block last work work′
 marked {cap} {count} l b t e d p q = record {
   len = q .len ∙ p .len;
   others = λ j m n. q .others j n ∙ p .others j m;
@@ -111,7 +104,7 @@ module _ (log : List ℕ) (x : TraceRecord) {cap count last : ℕ} {first full :
   first-is k = go (isKind 11 x) refl
     where
       not-first : (t : Bool) → first ≡ t → isKind 11 x ≡ false → t ≡ false
-      not-first true e d = let z : true ≡ false = sym (eq-eqb (x .kind) 11 (g e)) ∙ d in cc
+      not-first true e d = never (eq-eqb (x .kind) 11 (g e)) d
       not-first false e d = refl
 
       go : (t : Bool) → isKind 11 x ≡ t → first ≡ isSome (firstGrant x (hist log count))
@@ -133,28 +126,29 @@ module _ (log : List ℕ) (x : TraceRecord) {cap count last : ℕ} {first full :
     between = λ j y z. m .others j (λ w. omega arith) (λ w. omega arith);
     above = λ j z. m .others j (λ y. omega arith) (λ y. omega arith);
     ids = ids-on;
-    firsts = λ z k. not-entered (first-none x (hist log count) cap (none-of (firstGrant x (hist log count)) (sym n ∙ f k)) (no-write x (hist log count) z)) (firsts-on k);
+    firsts = λ z k.
+        not-entered (first-none x (hist log count) cap (none-of (firstGrant x (hist log count)) (sym n ∙ f k)) (no-write x (hist log count) z))
+        (firsts-on k);
     firsts-kept = λ z j y. m .others j (λ w. omega arith) (λ w. omega arith);
   }
 
-  pub noted-first : {b : ℕ} {work′ : List ℕ} → first ≡ true → b ≡ bucketBy cap (x .b) → b < cap
-      → Entered mid work′ (9 * cap) (10 * cap) count b → IdsNoted cap (hist log count) x work work′
-  noted-first {b} {work′} n e d w = record {
+  pub noted-first : {work′ : List ℕ} → first ≡ true → FirstEntered firstGrant cap count x mid work′ → IdsNoted cap (hist log count) x work work′
+  noted-first n w = record {
     len = w .len ∙ m .len;
-    below = λ j z. w .others j (λ y. omega arith) (λ y. omega arith) ∙ m .others j (λ y. omega arith) (λ y. omega arith);
-    between = λ j y z. w .others j (λ v. omega arith) (λ v. omega arith) ∙ m .others j (λ v. omega arith) (λ v. omega arith);
-    above = λ j z. w .others j (λ y. omega arith) (λ y. omega arith) ∙ m .others j (λ y. omega arith) (λ y. omega arith);
+    below = λ j z. w .below j z ∙ m .others j (λ y. omega arith) (λ y. omega arith);
+    between = λ j y z. w .above j y ∙ m .others j (λ v. omega arith) (λ v. omega arith);
+    above = λ j z. w .above j (omega arith) ∙ m .others j (λ y. omega arith) (λ y. omega arith);
     ids = λ k i.
         let r = ids-on k i in
         record {
-          links = column-agrees (record { word = λ j z. w .others _ (λ y. omega arith) (λ y. omega arith) }) (r .links);
-          lasts = column-agrees (record { word = λ j z. w .others _ (λ y. omega arith) (λ y. omega arith) }) (r .lasts);
+          links = column-agrees (record { word = λ j z. w .above (blockLinks * cap + j) (omega arith) }) (r .links);
+          lasts = column-agrees (record { word = λ j z. w .above (greatestLast * cap + j) (omega arith) }) (r .lasts);
         };
-    firsts = λ z k.
-        let s = some-of (firstGrant x (hist log count)) (sym n ∙ f k) in
-        entered (hist-length log count) l d (omega arith)
-        (grant-in x (hist log count) cap (s .1) ∙ ap (λ (v : Grant). some (bucketBy cap (v .index))) (sym (grant-is x (hist log count) (s .1))) ∙ ap some (sym e))
-        w
-        (firsts-on k);
+    firsts = λ z k. w .firsts (hist log count) (hist-length log count) (sym (f k) ∙ n) (firsts-on k);
     firsts-kept = λ z j y. absurd (omega (arith, g n, eqb-true (x .kind) 3 z));
   }
+
+-- a RaftApply leaves the chain of the firsts to `GenerationsRise`
+pub firsts-between : {cap : ℕ} {h : History} {x : TraceRecord} {work mid : List ℕ} → IdsNoted cap h x work mid → isKind 3 x ≡ true
+    → FirstsIndexed cap h work → FirstsIndexed cap h mid
+firsts-between i e f = chained-agrees (record { word = λ k l. i .firsts-kept e _ (omega arith) }) (record { word = λ k l. i .firsts-kept e _ (omega arith) }) f

@@ -1,24 +1,26 @@
 -- Laws of sharing: what a walk from block to block finds is what the rules ask of all blocks, and none shares an id with a
 -- block above the greatest last.
 use mathlib.Core.Path.{_≡_, refl, sym, ap, _∙_}
-use mathlib.Core.Bool.{Bool, true, false, cond, _&&_, _||_}
+use mathlib.Core.Bool.{Bool, true, false, cond, _&&_, _||_, or-false, or-assoc}
 use mathlib.Core.List.{List, [], _∷_}
 use mathlib.Core.Option.{Option, none, some}
 use Prim.Native.Nat.{ℕ, _-_, _<_, max}
 use native.Mathlib.Omega.{arith}
 use lib.Dec.{ltb, leb}
 use borrow.Author.Tests.{ltb-true, ltb-false, lt-leb}
+use Rattle.record.proofs.Booleans.{never}
 use Rattle.rules.specs.History.{anyOf, greater, greatestOf}
 use Rattle.rules.specs.Cases.{fault, faultIf, caseOf}
 use Rattle.rules.specs.IdsUnique.{Grant, grantBy, shares, blocksOf, sharedFault}
 use Rattle.history.specs.Logs.{recordAt, hist}
 use Rattle.history.proofs.Chains.{In}
 use Rattle.ids_unique.specs.declared.block.Shared.{Shared}
-use Rattle.ids_unique.specs.Blocks.{blockBucket, greatestOfLasts}
+use Rattle.ids_unique.specs.Columns.{blockBucket, greatestOfLasts}
 use Rattle.ids_unique.specs.Sharing.{weigh, weighAll}
 use Rattle.ids_unique.proofs.Blocks.{blocks-turn, blocks-end}
 
-weigh-more : (first last : ℕ) (s : Shared) (o : Grant) (os : List Grant) → weighAll first last s (o ∷ os) ≡ weighAll first last (weigh first last s (o .first) (o .last)) os
+weigh-more : (first last : ℕ) (s : Shared) (o : Grant) (os : List Grant)
+    → weighAll first last s (o ∷ os) ≡ weighAll first last (weigh first last s (o .first) (o .last)) os
 unfolding weighAll
 weigh-more first last s o os = refl
 
@@ -40,17 +42,9 @@ module _ (first last : ℕ) (log : List ℕ) where
   share-end {i} {x} {s} e y = y ∙ ap (weighAll first last s) (blocks-end log e) ∙ weigh-none first last s
 
 -- the greatest first that is not above an id, 0 where there is none
-unfoldable pub topOf : ℕ → List Grant → ℕ
+unfoldable topOf : ℕ → List Grant → ℕ
 topOf last [] = 0
 topOf last (o ∷ os) = cond (leb (o .first) last) (max (o .first) (topOf last os)) (topOf last os)
-
-or-assoc : (a b c : Bool) → (a || b) || c ≡ a || (b || c)
-or-assoc true b c = refl
-or-assoc false b c = refl
-
-or-false : (a : Bool) → a || false ≡ a
-or-false true = refl
-or-false false = refl
 
 module _ (g : Grant) where
   weigh-any : (bs : List Grant) (s : Shared) → weighAll (g .first) (g .last) s bs .any ≡ s .any || anyOf (shares g) bs
@@ -73,11 +67,11 @@ module _ (g : Grant) where
       ∙ top-step (o .first) (s .top) (topOf (g .last) os) (leb (o .first) (g .last)) (ltb (s .top) (o .first)) refl refl
 
   -- the greatest first not above the new last, where some block has one
-  abbrev pub best : List Grant → Option Grant
+  abbrev best : List Grant → Option Grant
   best bs = greatestOf (λ o. o .first) (λ o. leb (o .first) (g .last)) bs
 
   -- its first is that of the walk; where there is none no block shares an id
-  abbrev pub Known : List Grant → Option Grant → Type 0
+  abbrev Known : List Grant → Option Grant → Type 0
   Known bs none = (topOf (g .last) bs ≡ 0) × (anyOf (shares g) bs ≡ false)
   Known bs (some m) = m .first ≡ topOf (g .last) bs
 
@@ -93,7 +87,7 @@ module _ (g : Grant) where
   known-more o os false none e k = rw e k
   known-more o os false (some m) e k = rw e k
 
-  pub known : (bs : List Grant) → Known bs (best bs)
+  known : (bs : List Grant) → Known bs (best bs)
   unfolding topOf anyOf greatestOf
   known [] = (refl, refl)
   known (o ∷ os) = known-more o os (leb (o .first) (g .last)) (best os) refl (known os)
@@ -109,7 +103,7 @@ module _ (g : Grant) where
       go : (u : Bool) (b : Option Grant) → anyOf (shares g) bs ≡ u → Known bs b → s .top ≡ topOf (g .last) bs
           → faultIf u (caseOf (λ o. fault 3 (g .index ∷ o .first ∷ [])) b) ≡ faultIf u (fault 3 (g .index ∷ s .top ∷ []))
       go false b d k t = refl
-      go true none d k t = let z : true ≡ false = sym d ∙ k .1 in cc
+      go true none d k t = never d (k .1)
       go true (some m) d k t = ap (λ (n : ℕ). fault 3 (g .index ∷ n ∷ [])) (k ∙ sym t)
 
   -- a block above the greatest last shares nothing

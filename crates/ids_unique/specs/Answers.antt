@@ -2,19 +2,12 @@
 use mathlib.Core.Path.{_≡_}
 use mathlib.Core.Bool.{Bool, cond}
 use mathlib.Core.List.{List, [], _∷_, _++_}
-use Prim.Native.Nat.{ℕ, zero, suc}
+use Prim.Native.Nat.{ℕ}
 use lib.ListN.{length, drop}
 use lib.Dec.{ltb}
-use Rattle.rules.specs.declared.Found.{Found}
-use Rattle.rules.specs.declared.Found.the-variants.{At, Nothing}
 use Rattle.rules.specs.IdsUnique.{Grant}
 use Rattle.ids_unique.specs.declared.list.Listed.{Listed}
 use Rattle.ids_unique.specs.declared.list.Listed.the-variants.{All, TooShort}
-
--- a record's number, 0 for none
-abbrev pub foundAt : ℕ → Found
-foundAt zero = Nothing
-foundAt (suc k) = At (suc k)
 
 -- "`blocks` three words a block (first, last, node)"
 unfoldable pub blockWords : List Grant → List ℕ

@@ -1,41 +1,16 @@
-// The blocks: the latest one and the greatest last as of each record, and a walk from block to block.
-use history::chain::link;
+// A new block weighed against the older ones, in a walk from block to block.
+use crate::cells::block_below;
 use history::log::record_at;
 use record::field::d;
 use record::field::e;
 ghost use mathlib.Core.Path.{_≡_};
 ghost use mathlib.Core.Bool.{false, cond, _&&_};
-ghost use mathlib.Core.List.{List};
-ghost use Prim.Native.Nat.{ℕ, _*_, _≤_, _<_};
 ghost use lib.Dec.{leb, ltb};
-ghost use lib.ListN.{length};
 ghost use Rattle.rules.specs.IdsUnique.{blocksOf};
 ghost use Rattle.history.specs.Logs.{hist};
 ghost use Rattle.history.specs.Bounds.{Bounds};
-ghost use Rattle.ids_unique.specs.Blocks.{IdsIndexed, latestBlock, greatestOfLasts};
+ghost use Rattle.ids_unique.specs.Columns.{IdsIndexed};
 ghost use Rattle.ids_unique.specs.Sharing.{weigh, weighAll};
-
-// The number of the latest record with a block among the first n, 0 where there is none.
-pub fn block_below(work: &[u64], cap: usize, n: usize) -> usize
-    requires { ⌜ (32 * cap ≤ length (now work)) × ((n ≤ cap) × (cap ≤ 4096)) ⌝ }
-    ensures { λ r. ⌜ (r ≤ n) × ((log : List ℕ) (count : ℕ) → n ≤ count → count ≤ cap → IdsIndexed cap (hist log count) (now (work .entry)) → r ≡ latestBlock (hist log n)) ⌝ }
-{
-    if n == 0 {
-        return 0;
-    }
-    link(work, 14 * cap + (n - 1), n)
-}
-
-// The greatest last among the blocks of the first n records, 0 where there is none.
-pub fn greatest_last(work: &[u64], cap: usize, n: usize) -> u64
-    requires { ⌜ (32 * cap ≤ length (now work)) × ((n ≤ cap) × (cap ≤ 4096)) ⌝ }
-    ensures { λ r. ⌜ ((log : List ℕ) (count : ℕ) → n ≤ count → count ≤ cap → IdsIndexed cap (hist log count) (now (work .entry)) → r ≡ greatestOfLasts (blocksOf (hist log n))) ⌝ }
-{
-    if n == 0 {
-        return 0;
-    }
-    work[15 * cap + (n - 1)]
-}
 
 // What a walk from block to block has found of a new block: whether one shares an id with it, and the greatest first not
 // above its last.

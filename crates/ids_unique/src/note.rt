@@ -1,10 +1,11 @@
 // Taking a record: its words in the columns of the blocks, and a first grant into the chain of the firsts.
-use crate::block::block_below;
-use crate::block::greatest_last;
-use crate::grant::grant_at;
-use history::bucket::bucket_by;
-use history::chain::enter;
+use crate::cells::block_below;
+use crate::cells::greatest_last;
+use firsts::cells::grant_at;
+use firsts::note::enter_grant;
 use history::chain::put;
+use history::place::BLOCK_LINKS;
+use history::place::GREATEST_LAST;
 use record::field::b;
 use record::field::d;
 use record::field::e;
@@ -18,8 +19,8 @@ ghost use Rattle.rules.specs.History.{isSome};
 ghost use Rattle.rules.specs.IdsUnique.{grantBy, nonempty};
 ghost use Rattle.history.specs.Logs.{hist};
 ghost use Rattle.history.specs.Bounds.{Bounds};
-ghost use Rattle.ids_unique.specs.Firsts.{FirstsIndexed, firstGrant};
-ghost use Rattle.ids_unique.specs.Noted.{Marked, IdsNoted};
+ghost use Rattle.firsts.specs.Columns.{FirstsIndexed, firstGrant};
+ghost use Rattle.ids_unique.specs.Columns.{Marked, IdsNoted};
 
 // Whether a record has a first grant.
 fn is_first(log: &[u8], work: &[u64], count: usize, cap: usize, rec: &[u8]) -> bool
@@ -74,8 +75,16 @@ fn mark(work: &mut [u64], count: usize, cap: usize, block: bool, last: u64)
 {
     let below = block_below(work, cap, count);
     let top = greatest_last(work, cap, count);
-    put(work, 14 * cap + count, link_after(block, count, below));
-    put(work, 15 * cap + count, last_after(block, last, top));
+    put(
+        work,
+        BLOCK_LINKS * cap + count,
+        link_after(block, count, below),
+    );
+    put(
+        work,
+        GREATEST_LAST * cap + count,
+        last_after(block, last, top),
+    );
 }
 
 // Takes a record, after those taken, into the columns of `IdsUnique`.
@@ -86,6 +95,6 @@ pub fn note(log: &[u8], work: &mut [u64], count: usize, cap: usize, rec: &[u8])
     let first = is_first(log, work, count, cap, rec);
     mark(work, count, cap, first & is_full(rec), e(rec));
     if first {
-        enter(work, 9 * cap, 10 * cap, count, bucket_by(cap, b(rec)));
+        enter_grant(work, count, cap, rec);
     }
 }

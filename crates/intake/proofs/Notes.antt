@@ -9,20 +9,17 @@ use Rattle.rules.specs.History.{History}
 use Rattle.history.specs.Bounds.{Bounds}
 use Rattle.history.proofs.Cells.{Same, column-agrees}
 use Rattle.history.proofs.Chains.{chained-agrees}
-use Rattle.one_owner_per_key.specs.Index.{OwnersIndexed}
-use Rattle.one_owner_per_key.specs.Index as owners
-use Rattle.ids_unique.specs.Firsts.{FirstsIndexed}
-use Rattle.ids_unique.specs.Blocks.{IdsIndexed}
-use Rattle.ids_unique.specs.Noted.{IdsNoted}
-use Rattle.descriptors.specs.Index.{DescriptorsIndexed}
+use Rattle.one_owner_per_key.specs.Columns.{OwnersIndexed, OwnersNoted}
+use Rattle.firsts.specs.Columns.{FirstsIndexed}
+use Rattle.ids_unique.specs.Columns.{IdsIndexed, IdsNoted}
+use Rattle.descriptors.specs.Columns.{DescriptorsIndexed}
 use Rattle.descriptors.proofs.Noting.{indexed-agrees}
-use Rattle.generations_rise.specs.Writes.{GenerationsIndexed}
-use Rattle.generations_rise.specs.Noted.{GenerationsTaken}
-use Rattle.generations_rise.proofs.Notes.{firsts-between, firsts-noted}
-use Rattle.right_half.specs.Index.{HalfIndexed, HalfNoted}
-use Rattle.right_half.proofs.Openings.{half-agrees}
-use Rattle.meta_never_goes_back.specs.Index.{MetaIndexed}
-use Rattle.meta_never_goes_back.specs.Index as names
+use Rattle.generations_rise.specs.Columns.{GenerationsIndexed, GenerationsTaken}
+use Rattle.generations_rise.proofs.Notes.{firsts-noted}
+use Rattle.ids_unique.proofs.Notes.{firsts-between}
+use Rattle.splits.specs.Columns.{HalfIndexed, HalfNoted}
+use Rattle.meta_never_goes_back.specs.Columns.{MetaIndexed, MetaNoted}
+use Rattle.splits.proofs.Openings.{half-agrees}
 use Rattle.meta_never_goes_back.proofs.Naming as naming
 use Rattle.intake.specs.Words.{Indexed, Noted}
 
@@ -78,8 +75,8 @@ bounds-kept e b =
 -- ---- the notes, one after the other
 
 module _ {cap n : ℕ} {h : History} {x : TraceRecord} {work₀ work₁ work₂ work₃ work₄ work₅ work₆ : List ℕ} (size : length h ≡ n) (room : n < cap)
-    (f : HalfNoted cap h x work₀ work₁) (m : names.Noted cap h x work₁ work₂) (a : IdsNoted cap h x work₂ work₃)
-    (g : GenerationsTaken cap h x work₃ work₄) (b : owners.Noted cap h x work₄ work₅) (len : length work₆ ≡ length work₅)
+    (f : HalfNoted cap h x work₀ work₁) (m : MetaNoted cap h x work₁ work₂) (a : IdsNoted cap h x work₂ work₃)
+    (g : GenerationsTaken cap h x work₃ work₄) (b : OwnersNoted cap h x work₄ work₅) (len : length work₆ ≡ length work₅)
     (others : (j : ℕ) → 9 * cap ≤ j → getD work₆ j 0 ≡ getD work₅ j 0)
     (indexed : DescriptorsIndexed cap h work₅ → DescriptorsIndexed cap (x ∷ h) work₆) where
   -- below the right half's columns nothing is changed by its note and the names'; from there on nothing by those after them
@@ -122,7 +119,8 @@ module _ {cap n : ℕ} {h : History} {x : TraceRecord} {work₀ work₁ work₂ 
     len = len ∙ b .len ∙ g .len ∙ a .len ∙ m .len ∙ f .len;
     indexed = λ i. record {
       descriptors = descriptors-noted i;
-      firsts = firsts-kept (record { word = λ j l k. others j (omega arith) ∙ b .below j (omega arith) }) (firsts-noted a g (descriptors-before i) (firsts-before i));
+      firsts = firsts-kept (record { word = λ j l k. others j (omega arith) ∙ b .below j (omega arith) })
+          (firsts-noted (λ k. firsts-between a k (firsts-before i)) (λ k. a .firsts k (firsts-before i)) g (descriptors-before i));
       generations = generations-kept (record { word = λ j l k. others j (omega arith) ∙ b .below j (omega arith) }) (generations-noted i);
       ids = ids-kept (record { word = λ j l k. others j (omega arith) ∙ b .below j (omega arith) ∙ g .above j (omega arith) }) (ids-noted i);
       owners = owners-kept (record { word = λ j l k. others j (omega arith) }) (owners-noted i);

@@ -1,8 +1,8 @@
 -- The row of a check after one more record, for any check of the table: left by a record that does not concern it, kept after a fault,
 -- else entered. Assumes nothing.
 use mathlib.Core.Path.{_≡_, refl, sym, ap, _∙_}
-use mathlib.Core.Bool.{Bool, true, false}
-use mathlib.Core.List.{List, [], _∷_}
+use mathlib.Core.Bool.{true, false}
+use mathlib.Core.List.{List, _∷_}
 use Prim.Native.Nat.{ℕ, _*_, _/_, _%_, _≤_, _<_}
 use native.Mathlib.Omega.{arith}
 use lib.ListN.{length, getD, set}
@@ -19,21 +19,21 @@ use Rattle.rules.specs.declared.Verdict.the-variants.{Pass, Faulted}
 use Rattle.rules.specs.History.{History}
 use Rattle.rules.specs.Events.{events, position}
 use Rattle.rules.specs.Reports.{passed, faulted, atFirst, reportOf}
-use Rattle.rules.specs.Checks.{Check, checks, checkCount, checkAt, caseAt, reportBy, reportsOf, concernedBy}
+use Rattle.rules.specs.Checks.{checkCount, checkAt, caseAt, reportBy, reportsOf}
 use Rattle.rules.proofs.Reports.{reportOf-step, reportOf-kept}
 use Rattle.rules.proofs.Checks.{check-at}
 use Rattle.rules.proofs.CaseKinds.{CaseKinds, case-kinds, VerdictWithin, report-kinds}
 use Rattle.rules.proofs.Concerns.{Unconcerned, unconcerned, unmoved}
-use Rattle.rows.specs.Rows.{kindWord, reportWords, rowsOf, KindsFit, enteredIn, EntersIn}
+use Rattle.rows.specs.Rows.{kindWord, reportWords, rowsOf, enteredIn, EntersIn}
 use Rattle.rows.proofs.ReadBack.{rows-set, row-kind}
 use Rattle.history.specs.Logs.{hist}
 use Rattle.history.proofs.Logs.{hist-length}
 use Rattle.events.specs.Numbers.{eventIn}
 use Rattle.events.proofs.Numbers.{event-is}
-use Rattle.intake.specs.Refusals.{concernedBits}
+use Rattle.decision.specs.Refusals.{concernedBits}
 use Rattle.intake.specs.Words.{Indexed}
 use Rattle.intake.specs.Steps.{Ready, Tells, SteppedIn, JudgedIn}
-use Rattle.intake.proofs.Bits.{bit, read, off}
+use Rattle.decision.proofs.Bits.{bit, read, off}
 
 -- ---- what a row's first word tells
 

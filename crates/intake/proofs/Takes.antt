@@ -7,10 +7,10 @@ use lib.ListN.{length}
 use Rattle.record.specs.Numbers.{byteAt}
 use Rattle.record.specs.Records.{decode}
 use Rattle.rules.specs.declared.Opening.{Opening}
-use Rattle.intake.specs.Refusals.{pushRefusalBy, concernedBits, decided}
+use Rattle.decision.specs.Refusals.{pushRefusalBy, concernedBits, decided}
 use Rattle.intake.specs.Steps.{Ready, JudgedIn}
 use Rattle.intake.specs.Takes.{PreviewsIn, Keepable, KeptIn, TakesIn}
-use Rattle.intake.proofs.Decisions.{Room, room-of, room-bounds, decided-taken, decided-refused}
+use Rattle.decision.proofs.Decisions.{Room, room-of, room-bounds, decided-taken, decided-refused}
 
 -- a record's kind is its first byte
 kind-is : (bytes : List ℕ) → decode bytes .kind ≡ byteAt 0 bytes

@@ -1,6 +1,5 @@
--- What the taking of one record promises: what is decided, what the checks' rows become, and what is left.
+-- What the taking of one record promises: what the checks' rows become, and what is left.
 pub mod Words
 pub mod WorkArea
-pub mod Refusals
 pub mod Steps
 pub mod Takes

@@ -13,7 +13,7 @@ use Rattle.rules.specs.Checks.{checkCount, checkAt, reportBy, reportsOf, concer
 use Rattle.rows.specs.Rows.{rowsSize, rowsOf, KindsFit}
 use Rattle.history.specs.Bounds.{Bounds}
 use Rattle.history.specs.Logs.{hist}
-use Rattle.intake.specs.Refusals.{concernedBits}
+use Rattle.decision.specs.Refusals.{concernedBits}
 use Rattle.intake.specs.Words.{Indexed}
 
 -- what the judging of a record asks for: lengths, and nothing of what the words hold

@@ -10,7 +10,7 @@ use Rattle.rules.specs.Checks.{reportsOf}
 use Rattle.rows.specs.Rows.{rowsOf, KindsFit}
 use Rattle.history.specs.Bounds.{Bounds}
 use Rattle.history.specs.Logs.{hist, Appended}
-use Rattle.intake.specs.Refusals.{pushRefusalBy}
+use Rattle.decision.specs.Refusals.{pushRefusalBy}
 use Rattle.intake.specs.Words.{Indexed, Noted}
 
 -- what the judging of a record does to the rows, after n records of e events: those of the reports become those of the reports with one

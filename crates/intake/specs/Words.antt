@@ -5,13 +5,13 @@ use Prim.Native.Nat.{ℕ}
 use lib.ListN.{length}
 use Rattle.record.specs.Records.{TraceRecord}
 use Rattle.rules.specs.History.{History}
-use Rattle.descriptors.specs.Index.{DescriptorsIndexed}
-use Rattle.one_owner_per_key.specs.Index.{OwnersIndexed}
-use Rattle.ids_unique.specs.Firsts.{FirstsIndexed}
-use Rattle.ids_unique.specs.Blocks.{IdsIndexed}
-use Rattle.generations_rise.specs.Writes.{GenerationsIndexed}
-use Rattle.right_half.specs.Index.{HalfIndexed}
-use Rattle.meta_never_goes_back.specs.Index.{MetaIndexed}
+use Rattle.descriptors.specs.Columns.{DescriptorsIndexed}
+use Rattle.one_owner_per_key.specs.Columns.{OwnersIndexed}
+use Rattle.firsts.specs.Columns.{FirstsIndexed}
+use Rattle.ids_unique.specs.Columns.{IdsIndexed}
+use Rattle.generations_rise.specs.Columns.{GenerationsIndexed}
+use Rattle.splits.specs.Columns.{HalfIndexed}
+use Rattle.meta_never_goes_back.specs.Columns.{MetaIndexed}
 
 -- each of the 32 columns is what the history says, by the crate that owns it
 pub record Indexed (cap : ℕ) (h : History) (work : List ℕ) : Type 0 where

@@ -3,13 +3,13 @@ use mathlib.Core.List.{List, [], _∷_, _++_}
 use Prim.Native.Nat.{ℕ, zero, suc}
 use Rattle.rules.specs.History.{History}
 use Rattle.history.specs.Columns.{cellOf, latestIn, linkOf}
-use Rattle.descriptors.specs.Index.{appliedBucket, standingBucket, statedBucket, generationBucket, countsAfter}
-use Rattle.ids_unique.specs.Firsts.{firstBucket}
-use Rattle.ids_unique.specs.Blocks.{blockLink, lastAfter}
-use Rattle.generations_rise.specs.Writes.{keyBucket, generationBy}
-use Rattle.one_owner_per_key.specs.Index.{byHold, byOwner, newlyCell, endedCell}
-use Rattle.right_half.specs.Index.{serverCell, restatedCell, refusedCell, pendingCell, registeredCell, bySplit, byRecording}
-use Rattle.meta_never_goes_back.specs.Index.{nameAsOf}
+use Rattle.descriptors.specs.Columns.{appliedBucket, standingBucket, statedBucket, generationBucket, countsAfter}
+use Rattle.firsts.specs.Columns.{firstBucket}
+use Rattle.ids_unique.specs.Columns.{blockLink, lastAfter}
+use Rattle.generations_rise.specs.Columns.{keyBucket, generationBy}
+use Rattle.one_owner_per_key.specs.Columns.{byHold, byOwner, newlyCell, endedCell}
+use Rattle.splits.specs.Columns.{serverCell, restatedCell, refusedCell, pendingCell, registeredCell, bySplit, byRecording}
+use Rattle.meta_never_goes_back.specs.Columns.{nameAsOf}
 
 -- the words of a column of n: at each place k, F k
 unfoldable pub columnOf : ℕ → (ℕ → ℕ) → List ℕ

@@ -12,10 +12,10 @@ pub fn note(log: &[u8], work: &mut [u64], n: usize, cap: usize, rec: &[u8])
     requires { ⌜ Bounds (now log) (now work) n cap × ((n < cap) × (length (now rec) ≡ 368)) ⌝ }
     ensures { λ _. ⌜ Noted cap (hist (now (log .entry)) n) (decode (now (rec .entry))) (now (work .entry)) (now (work .exit)) ⌝ }
 {
-    right_half::note::note(log, work, n, cap, rec);
-    meta_never_goes_back::names::note(log, work, n, cap, rec);
+    splits::note::note(log, work, n, cap, rec);
+    meta_never_goes_back::note::note(log, work, n, cap, rec);
     ids_unique::note::note(log, work, n, cap, rec);
     generations_rise::note::note(log, work, n, cap, rec);
     one_owner_per_key::note::note(log, work, n, cap, rec);
-    descriptors::index::note(log, work, n, cap, rec);
+    descriptors::note::note(log, work, n, cap, rec);
 }

@@ -1,7 +1,7 @@
 // One record, judged without being taken.
-use crate::decide::REFUSED;
-use crate::decide::decide;
 use crate::judge::judge;
+use decision::REFUSED;
+use decision::decide;
 ghost use mathlib.Core.Path.{_≡_};
 ghost use lib.ListN.{length};
 ghost use Rattle.rows.specs.Rows.{rowsSize};

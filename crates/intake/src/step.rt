@@ -1,20 +1,20 @@
 // One more record, judged by each check. A check is asked only where the record concerns it and its report is still a pass: its row
 // begins with 0. Each check is called from here and from nowhere else.
-use crate::decide::AGREEMENT;
-use crate::decide::GENERATIONS;
-use crate::decide::HALF;
-use crate::decide::IDS;
-use crate::decide::INSTALL;
-use crate::decide::META;
-use crate::decide::OVERLAP;
-use crate::decide::TWICE;
-use descriptors::agree::agreement;
-use generations_rise::rise::generations;
-use ids_unique::ids::ids;
-use meta_never_goes_back::meta;
-use one_owner_per_key::clauses::install;
-use one_owner_per_key::clauses::overlap;
-use one_owner_per_key::clauses::twice;
+use decision::AGREEMENT;
+use decision::GENERATIONS;
+use decision::HALF;
+use decision::IDS;
+use decision::INSTALL;
+use decision::META;
+use decision::OVERLAP;
+use decision::TWICE;
+use descriptors::check::agreement;
+use generations_rise::check::generations;
+use ids_unique::check::ids;
+use meta_never_goes_back::check::meta;
+use one_owner_per_key::check::install;
+use one_owner_per_key::check::overlap;
+use one_owner_per_key::check::twice;
 use right_half::check::half;
 use rows::REPORT_WORDS;
 use rows::enter;

@@ -9,7 +9,7 @@ use lib.ListN.{length, drop}
 use borrow.Author.Tests.{le-ltb}
 use types.Run.{OneOf}
 use denote.Enum.Declared.{tagOf}
-use Rattle.record.proofs.Keys.{never}
+use Rattle.record.proofs.Booleans.{never}
 use Rattle.rules.specs.History.{History, told, firsts, those, greatestOf, earliestOf}
 use Rattle.rules.specs.Descriptors.{standing, stated, beforeIn, atIn, firstAtGenerationIn, before, at, firstAtGeneration, statements, isEmpty}
 use Rattle.rules.specs.IdsUnique.{firstGrants, blocksOf, inOrder, blocks, holdersOf}
@@ -26,7 +26,7 @@ use Rattle.judge.specs.declared.state.Refusal.the-variants.{Nothing, Jud
 use Rattle.intake.specs.Words.{Indexed}
 use Rattle.judge.specs.Lookups.{valueOf, wordsOf, writes, ListedBy, lends, Answered, LookedBy}
 use Rattle.judge.proofs.lookup.Question as QuestionT
-use Rattle.intake.proofs.Suiting.{Suiting, suiting}
+use Rattle.decision.proofs.Suiting.{Suiting, suiting}
 
 -- no words are written of no records
 pub none-words : (q : Question) → wordsOf q [] ≡ []

@@ -7,7 +7,7 @@ use native.Mathlib.Omega.{arith}
 use lib.ListN.{length, replicate, length-replicate}
 use lib.Dec.{eqb}
 use borrow.Author.Tests.{eqb-false, ne-eqb}
-use Rattle.record.proofs.Keys.{never}
+use Rattle.record.proofs.Booleans.{never}
 use Rattle.rules.specs.declared.Opening.{Opening}
 use Rattle.rules.specs.Reports.{passed, reportOf}
 use Rattle.rules.specs.Checks.{checkCount, reportsOf}
@@ -17,20 +17,20 @@ use Rattle.history.proofs.Cells.{Zeros, zeros, column-clear}
 use Rattle.history.proofs.Chains.{chained-clear}
 use Rattle.descriptors.proofs.Noting as descriptors
 use Rattle.meta_never_goes_back.proofs.Naming as names
-use Rattle.ids_unique.specs.Blocks.{IdsIndexed, blockLink, lastAfter}
-use Rattle.generations_rise.specs.Writes.{GenerationsIndexed, generationBy}
+use Rattle.ids_unique.specs.Columns.{IdsIndexed, blockLink, lastAfter}
+use Rattle.generations_rise.specs.Columns.{GenerationsIndexed, generationBy}
 use Rattle.one_owner_per_key.proofs.Notes.{owners-clear}
-use Rattle.right_half.proofs.Openings.{half-clear}
+use Rattle.splits.proofs.Openings.{half-clear}
 use Rattle.judge.specs.declared.opening.Opened.{Opened}
 use Rattle.judge.specs.declared.state.Judge.{Judge}
 use Rattle.judge.specs.declared.state.Tested.{Tested}
 use Rattle.judge.specs.declared.state.Refusal.the-variants.{Nothing, Opening as Unopened}
 use Rattle.judge.specs.States.{suits}
 use Rattle.judge.specs.Openings.{Fits, freshOf, Opens}
-use Rattle.intake.specs.Refusals.{suitsBy}
+use Rattle.decision.specs.Refusals.{suitsBy}
 use Rattle.intake.specs.Words.{Indexed}
-use Rattle.judge.specs.Runs.{After, stateOf}
-use Rattle.intake.proofs.Suiting.{Suiting, suiting, suits-by}
+use Rattle.judge.specs.Pushes.{After, stateOf}
+use Rattle.decision.proofs.Suiting.{Suiting, suiting, suits-by}
 
 ids-clear : {cap : ℕ} {work : List ℕ} → Zeros work → IdsIndexed cap [] work
 ids-clear z = record { links = column-clear blockLink z; lasts = column-clear lastAfter z }

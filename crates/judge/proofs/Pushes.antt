@@ -15,10 +15,11 @@ use Rattle.rules.specs.declared.Verdict.the-variants.{Pass, Faulted}
 use Rattle.rules.specs.History.{History}
 use Rattle.rules.specs.Events.{events}
 use Rattle.rules.specs.Checks.{Check, checks, checkCount, caseAt, reportBy, reportsOf, Every}
-use Rattle.rules.proofs.Booleans.{never}
+use Rattle.record.proofs.Booleans.{never}
 use Rattle.rules.proofs.CaseKinds.{CaseKinds, case-kinds, VerdictWithin, report-kinds}
 use Rattle.rows.specs.Rows.{rowsOf, reportsIn, KindsFit, WrittenIn}
-use Rattle.rows.proofs.Rows.{length-rows, sets-all}
+use Rattle.rows.proofs.Rows.{length-rows}
+use Rattle.record.proofs.Lists.{sets-all}
 use Rattle.rows.proofs.ReadBack.{ReadsBack, AllRead, rows-read, rows-back, fit-rows}
 use Rattle.history.specs.Logs.{hist}
 use Rattle.history.proofs.Logs.{appended-hist}
@@ -26,11 +27,11 @@ use Rattle.events.specs.Numbers.{eventIn}
 use Rattle.events.proofs.Numbers.{event-is}
 use Rattle.intake.specs.Words.{Indexed}
 use Rattle.intake.specs.Takes.{JudgedAs, TakenIn, TakesIn}
-use Rattle.intake.proofs.Suiting.{suits-by}
-use Rattle.intake.proofs.Decisions.{Room, room-of}
+use Rattle.decision.proofs.Suiting.{suits-by}
+use Rattle.decision.proofs.Decisions.{Room, room-of}
 use Rattle.judge.specs.declared.state.Judge.{Judge}
 use Rattle.judge.specs.States.{State, suits, pushRefusal}
-use Rattle.judge.specs.Runs.{After, Taken, Pushed, stateOf}
+use Rattle.judge.specs.Pushes.{After, Taken, Pushed, stateOf}
 use Rattle.judge.specs.Traces.{judgeBy}
 
 -- ---- the reports of a history as rows

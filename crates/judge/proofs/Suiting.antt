@@ -2,7 +2,7 @@
 use mathlib.Core.Path.{_≡_}
 use mathlib.Core.Bool.{true}
 use lib.ListN.{length}
-use Rattle.intake.proofs.Suiting.{Suiting, suiting}
+use Rattle.decision.proofs.Suiting.{Suiting, suiting}
 use Rattle.judge.specs.States.{State, suits}
 
 pub state-suiting : (s : State) → suits s ≡ true → Suiting (s .judge .capacity) (s .judge .count) (length (s .log)) (length (s .work))

@@ -1,7 +1,7 @@
 -- A trace's records: the next one, what is after it, and a push of it. Assumes nothing.
 use mathlib.Core.Path.{_≡_, refl, sym, ap, _∙_, subst}
 use mathlib.Core.Bool.{false}
-use mathlib.Core.List.{List, [], _∷_}
+use mathlib.Core.List.{List}
 use mathlib.Core.Logic.{⊎-elim}
 use Prim.Native.Nat.{ℕ, _+_, _*_, _-_, _≤_, _<_}
 use native.Mathlib.Omega.{arith}
@@ -10,7 +10,7 @@ use lib.ListN.{length, take, drop, replicate, length-drop, drop-of-length-le, ge
 use lib.Seq.{take-all, drop-drop}
 use lib.Dec.{eqb}
 use borrow.Author.Tests.{ne-eqb}
-use Rattle.record.proofs.Keys.{never}
+use Rattle.record.proofs.Booleans.{never}
 use Rattle.record.specs.Records.{decode}
 use Rattle.rules.specs.declared.Opening.{Opening}
 use Rattle.rows.specs.Rows.{reportIn, reportsFrom, KindsFit}
@@ -20,13 +20,12 @@ use Rattle.judge.specs.declared.trace.Traced.{Traced}
 use Rattle.judge.specs.declared.state.Judge.{Judge}
 use Rattle.judge.specs.declared.state.Refusal.the-variants.{Nothing}
 use Rattle.judge.specs.States.{State, refusalNumber, pushRefusal, takes}
-use Rattle.intake.specs.Refusals.{pushRefusalBy}
+use Rattle.decision.specs.Refusals.{pushRefusalBy}
 use Rattle.intake.specs.Words.{Indexed}
 use Rattle.intake.specs.Takes.{TakesIn}
-use Rattle.judge.specs.Calls.{Call, push}
-use Rattle.judge.specs.Runs.{Pushed, Run, none, more, stateOf}
+use Rattle.judge.specs.Pushes.{Pushed, stateOf}
 use Rattle.judge.specs.Openings.{freshOf, Opens}
-use Rattle.judge.specs.Traces.{Feeds, ends, refused, taken, judgeBy, TracedBy}
+use Rattle.judge.specs.Traces.{Feeds, refused, taken, judgeBy, TracedBy}
 use Rattle.judge.proofs.Pushes.{push-taken, rows-own}
 
 -- the record at `at`, and what is after it
@@ -100,15 +99,3 @@ module _ (n : Opening) (log work trace : List ℕ) (o : Opened) {work₁ : List 
     refused = λ none. let q = p .refused none in (q .0, refl, q .1, refl, q .2);
     opened = λ c f. never (ap (λ (m : ℕ). eqb m 0) (p .opened c f .0)) e;
   }
-
--- what a trace comes to is a run of the pushes that were taken: so the third demand speaks of it
-pub record Ran (s t : State) : Type 0 where
-  pub calls : List Call
-  pub run : Run Indexed s calls t
-
-pub feeds-run : {s t : State} {trace : List ℕ} {n f a : ℕ} → Feeds s trace n f a t → Ran s t
-feeds-run (ends e) = record { calls = []; run = none }
-feeds-run (refused l q e) = record { calls = []; run = none }
-feeds-run {trace = trace} (taken l q p w) =
-    let r = feeds-run w in
-    record { calls = push (take 368 trace) ∷ r .calls; run = more p (r .run) }

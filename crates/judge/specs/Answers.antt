@@ -1,6 +1,6 @@
 -- What a call for a report gives.
 use mathlib.Core.Path.{_≡_}
-use mathlib.Core.Bool.{Bool, cond, _&&_}
+use mathlib.Core.Bool.{cond, _&&_}
 use mathlib.Core.List.{List}
 use Prim.Native.Nat.{ℕ, _-_}
 use lib.ListN.{getD}
@@ -11,7 +11,7 @@ use Rattle.rules.specs.Checks.{checkCount}
 use Rattle.judge.specs.declared.state.Judge.{Judge}
 use Rattle.judge.specs.declared.answer.Reported.{Reported}
 use Rattle.judge.specs.States.{refusalNumber}
-use Rattle.intake.specs.Refusals.{fitsBy}
+use Rattle.decision.specs.Refusals.{fitsBy}
 
 -- a report by its number, from 1 on, in printing order; a number that is no check's has a pass
 abbrev pub reportNo : List Report → ℕ → Report

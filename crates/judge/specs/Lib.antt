@@ -1,13 +1,9 @@
--- The judge's state and calls as definitions, and the words of the second and third demands.
+-- The judge's state as definitions, and what one call of it leaves, shows or answers.
 pub mod Tickets
 pub mod States
 pub mod Openings
 pub mod Answers
 pub mod Lookups
-pub mod Calls
-pub mod Runs
+pub mod Pushes
 pub mod Previews
 pub mod Traces
-pub mod Demand2
-pub mod Pieces
-pub mod AnyOrder

@@ -20,7 +20,7 @@ use Rattle.judge.specs.declared.lookup.Question.{Question}
 use Rattle.judge.specs.declared.lookup.Question.the-variants.{Before, At, FirstAtGeneration, Statements, IsEmpty, HoldersOf, Blocks}
 use Rattle.judge.specs.declared.state.Judge.{Judge}
 use Rattle.judge.specs.States.{refusalNumber}
-use Rattle.intake.specs.Refusals.{suitsBy}
+use Rattle.decision.specs.Refusals.{suitsBy}
 use Rattle.intake.specs.Words.{Indexed}
 
 -- the number of the record that was found, 0 for none

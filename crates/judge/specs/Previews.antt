@@ -3,15 +3,13 @@ use mathlib.Core.Path.{_≡_}
 use mathlib.Core.Bool.{true, false, cond}
 use mathlib.Core.List.{List, _∷_}
 use Prim.Native.Nat.{ℕ}
-use lib.ListN.{length, replicate}
+use lib.ListN.{replicate}
 use lib.Dec.{eqb}
 use Rattle.record.specs.Records.{decode}
-use Rattle.rules.specs.declared.Opening.{Opening}
 use Rattle.rules.specs.declared.Report.{Report}
 use Rattle.rules.specs.History.{History}
 use Rattle.rules.specs.Reports.{passed}
 use Rattle.rules.specs.Checks.{checkCount, reportsOf}
-use Rattle.intake.specs.Refusals.{refusalAfter}
 use Rattle.intake.specs.Words.{Indexed}
 use Rattle.judge.specs.declared.preview.Previewed.{Previewed}
 use Rattle.judge.specs.declared.push.Pushed as Answer
@@ -19,8 +17,7 @@ use Rattle.judge.specs.declared.state.Judge.{Judge}
 use Rattle.judge.specs.declared.ticket.Ticket.{Ticket}
 use Rattle.judge.specs.Tickets.{ticketOf, noTicket}
 use Rattle.judge.specs.States.{State, refusalNumber, pushRefusal, commitRefusal, takes}
-use Rattle.judge.specs.Calls.{push, afterCall}
-use Rattle.judge.specs.Runs.{After, Committed, stateOf}
+use Rattle.judge.specs.Pushes.{After, Committed, stateOf}
 
 -- under a refusal: "the present reports (eight passes under 5)"
 abbrev pub refusedReports : List Report → ℕ → List Report
@@ -47,10 +44,3 @@ pub record PreviewedBy (j : Judge) (log work bytes : List ℕ) (r : Previewed) :
 pub record CommittedBy (j : Judge) (log work : List ℕ) (k : Ticket) (r : Answer.Pushed) (log′ work′ : List ℕ) : Type 0 where
   pub refusal : refusalNumber (r .refusal) ≡ commitRefusal (stateOf j log work) k
   pub leaves : Committed Indexed (stateOf j log work) k (stateOf (r .judge) log′ work′)
-
--- what a preview shows after the records of h, in a judge of this capacity: the table's refusal, the reports of the records that a push
--- would leave, and the ticket of this record or of zeros
-pub record Shown (o : Opening) (cap : ℕ) (h : History) (bytes : List ℕ) (refusal : ℕ) (reports : List Report) (ticket : Ticket) : Type 0 where
-  pub refuses : refusal ≡ refusalAfter cap h bytes
-  pub would : reports ≡ reportsOf o (afterCall cap h (push bytes))
-  pub holds : ticket ≡ cond (eqb (refusalAfter cap h bytes) 0) (ticketOf (length h) bytes) noTicket

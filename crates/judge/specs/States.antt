@@ -4,7 +4,7 @@ use mathlib.Core.List.{List}
 use Prim.Native.Nat.{ℕ}
 use lib.ListN.{length}
 use lib.Dec.{eqb}
-use Rattle.intake.specs.Refusals.{suitsBy, pushRefusalBy}
+use Rattle.decision.specs.Refusals.{suitsBy, pushRefusalBy}
 use Rattle.judge.specs.declared.state.Judge.{Judge}
 use Rattle.judge.specs.declared.state.Refusal.{Refusal}
 use Rattle.judge.specs.declared.state.Refusal.the-variants.{Nothing, Length, Kind, Value, Unused, Judge as Unfit, Full, Opening, Output}

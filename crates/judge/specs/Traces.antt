@@ -10,9 +10,9 @@ use Rattle.judge.specs.declared.state.Judge.{Judge}
 use Rattle.judge.specs.declared.trace.Traced.{Traced}
 use Rattle.judge.specs.States.{State, refusalNumber, pushRefusal, takes}
 use Rattle.judge.specs.Openings.{Fits, freshOf}
-use Rattle.intake.specs.Refusals.{PushNumber}
+use Rattle.decision.specs.Refusals.{PushNumber}
 use Rattle.intake.specs.Words.{Indexed}
-use Rattle.judge.specs.Runs.{Pushed, stateOf}
+use Rattle.judge.specs.Pushes.{Pushed, stateOf}
 
 -- what the bytes of a trace come to from a state, after n records: they end, and there is no refusal; or the next 368 bytes, or
 -- the tail that is shorter, are refused with a number, at that record; or they are taken, and the rest of the bytes follows

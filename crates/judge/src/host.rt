@@ -1,7 +1,7 @@
 // The host entry: one judge, lent to be altered, above the push by value.
 use crate::state::Judge;
 use crate::state::Refusal;
-ghost use Rattle.judge.specs.Runs.{PushedBy};
+ghost use Rattle.judge.specs.Pushes.{PushedBy};
 
 // A push into a judge that the host lends: altered in place.
 pub fn push_into(judge: &mut Judge, log: &mut [u8], work: &mut [u64], rec: &[u8]) -> Refusal

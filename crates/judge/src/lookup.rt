@@ -1,8 +1,8 @@
 // The look-ups: one guard and one shape for every question.
 use crate::state::Judge;
 use crate::state::Refusal;
-use descriptors::index::is_empty;
-use descriptors::index::statements;
+use descriptors::cells::is_empty;
+use descriptors::cells::statements;
 use descriptors::value::at;
 use descriptors::value::before;
 use descriptors::value::first_at_generation;

@@ -17,13 +17,13 @@ pub struct Opened {
 
 impl Judge {
     // The largest capacity.
-    pub const CAPACITY: usize = intake::decide::CAPACITY;
+    pub const CAPACITY: usize = decision::CAPACITY;
 
     // The bytes of a record.
     pub const RECORD_SIZE: usize = record::limits::RECORD_SIZE;
 
     // The words of the work area for each record.
-    pub const WORDS: usize = intake::decide::WORDS;
+    pub const WORDS: usize = decision::WORDS;
 
     // The most bytes of a key.
     pub const KEY_LIMIT: u8 = record::limits::KEY_LIMIT;

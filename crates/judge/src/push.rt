@@ -7,7 +7,7 @@ use intake::take::take;
 use rows::ROWS;
 use rows::read_rows;
 use rows::write_rows;
-ghost use Rattle.judge.specs.Runs.{PushedBy};
+ghost use Rattle.judge.specs.Pushes.{PushedBy};
 
 // What a push gives: its refusal, and the judge.
 pub struct Pushed {

@@ -1,11 +1,11 @@
 // The judge, its tests, and the numbers of its refusals.
-use intake::decide::CAPACITY;
-use intake::decide::suits;
+use decision::CAPACITY;
+use decision::suits;
 use rules::CHECKS;
 use rules::Opening;
 use rules::Report;
 ghost use mathlib.Core.Path.{_≡_};
-ghost use Rattle.intake.specs.Refusals.{fitsBy, suitsBy, PushNumber};
+ghost use Rattle.decision.specs.Refusals.{fitsBy, suitsBy, PushNumber};
 ghost use Rattle.judge.specs.States.{refusalNumber};
 
 // Why a call was refused, or that it was not.

@@ -13,7 +13,7 @@ ghost use Prim.Native.Nat.{_+_, _<_, _≤_};
 ghost use lib.ListN.{length, replicate};
 ghost use Rattle.rows.specs.Rows.{rowsSize};
 ghost use Rattle.judge.specs.States.{refusalNumber};
-ghost use Rattle.judge.specs.Runs.{stateOf};
+ghost use Rattle.judge.specs.Pushes.{stateOf};
 ghost use Rattle.judge.specs.Traces.{Feeds, judgeBy, FedBy, TracedBy};
 
 // What a whole trace gives: the first refusal, the number of the record that it came at, and the judge.

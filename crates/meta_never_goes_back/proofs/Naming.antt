@@ -2,7 +2,7 @@
 use mathlib.Core.Path.{_≡_, refl, sym, ap, _∙_}
 use mathlib.Core.Bool.{Bool, true, false, cond}
 use mathlib.Core.List.{List, [], _∷_}
-use mathlib.Core.Option.{Option, none, some}
+use mathlib.Core.Option.{some}
 use Prim.Native.Nat.{ℕ, suc, _+_, _-_, _*_, _%_, _≤_, _<_}
 use native.Mathlib.Decide.{ℕ-discrete}
 use native.Mathlib.Omega.{arith}
@@ -10,18 +10,19 @@ use lib.Dec.{eqb, leb}
 use lib.ListN.{length, getD}
 use borrow.Author.Tests.{eq-eqb, ne-eqb, leb-true, lt-ltb, le-ltb}
 use Rattle.record.specs.Records.{TraceRecord}
+use Rattle.record.proofs.Booleans.{none-some}
 use Rattle.rules.specs.History.{History, when, holds}
 use Rattle.rules.specs.MetaNeverGoesBack.{isWon, nameBy, names}
-use Rattle.rules.proofs.Skips.{told-skip}
+use Rattle.rules.proofs.MetaHighest.{names-skip}
 use Rattle.history.specs.Columns.{latestIn, clamp, Put}
 use Rattle.history.specs.Logs.{recordAt, hist}
 use Rattle.history.specs.Places.{latestName}
 use Rattle.history.proofs.Cells.{cell-at, cell-new, Same, column-agrees, column-put, Zeros, column-clear}
 use Rattle.history.proofs.Chains.{In, latest-here, latest-else, latest-in, skip, clamped}
 use Rattle.history.proofs.Logs.{hist-none, hist-length, hist-less}
-use Rattle.history.proofs.Tellings.{when-holds}
+use Rattle.rules.proofs.Tellings.{when-holds}
 use Rattle.history.proofs.Walks.{look-outside, told-found, told-end}
-use Rattle.meta_never_goes_back.specs.Index.{nameBucket, lastName, isHighest, nameAsOf, MetaIndexed, nameBefore, Noted}
+use Rattle.meta_never_goes_back.specs.Columns.{nameBucket, lastName, isHighest, nameAsOf, MetaIndexed, nameBefore, MetaNoted}
 
 -- ---- the column
 
@@ -53,7 +54,8 @@ module _ (cap : ℕ) (work : List ℕ) where
   pub word-above : {k : ℕ} → (k ≡ 0 → ⊥) → k < getD work (latestName * cap + (k - 1)) 0 % 8192 → 0 ≡ nameBefore cap work k
   word-above {k} n l = sym (word-some n ∙ rw (lt-ltb k (getD work (latestName * cap + (k - 1)) 0 % 8192) l))
 
-  pub word-within : {k : ℕ} → (k ≡ 0 → ⊥) → getD work (latestName * cap + (k - 1)) 0 % 8192 ≤ k → getD work (latestName * cap + (k - 1)) 0 % 8192 ≡ nameBefore cap work k
+  pub word-within : {k : ℕ} → (k ≡ 0 → ⊥) → getD work (latestName * cap + (k - 1)) 0 % 8192 ≤ k
+      → getD work (latestName * cap + (k - 1)) 0 % 8192 ≡ nameBefore cap work k
   word-within {k} n l = sym (word-some n ∙ rw (le-ltb k (getD work (latestName * cap + (k - 1)) 0 % 8192) l))
 
   pub word-none : {k : ℕ} → k ≡ 0 → nameBefore cap work k ≡ 0
@@ -65,7 +67,8 @@ module _ (cap : ℕ) (work : List ℕ) where
       word-some (λ z. omega arith) ∙ clamped (getD work (latestName * cap + (k - 1)) 0 % 8192) m k (ap (λ (w : ℕ). w % 8192) e ∙ word-rest m b (omega arith)) u
 
   -- the word before a place is the number of the latest name before it
-  pub before-is : (log : List ℕ) (n : ℕ) {k : ℕ} → MetaIndexed cap (hist log n) work → k ≤ n → n ≤ cap → cap ≤ 4096 → nameBefore cap work k ≡ lastName (hist log k)
+  pub before-is : (log : List ℕ) (n : ℕ) {k : ℕ} → MetaIndexed cap (hist log n) work → k ≤ n → n ≤ cap → cap ≤ 4096
+      → nameBefore cap work k ≡ lastName (hist log k)
   before-is log n {k} c l m s =
       elim (ℕ-discrete k 0) [
         | yes e ↦ word-none e ∙ sym latest-none ∙ ap lastName (sym (hist-none log) ∙ ap (hist log) (sym e))
@@ -78,7 +81,7 @@ module _ (cap : ℕ) (work : List ℕ) where
       ]
 
   -- the same of any history, at its end
-  pub before-new : (h : History) → MetaIndexed cap h work → length h ≤ cap → cap ≤ 4096 → nameBefore cap work (length h) ≡ lastName h
+  before-new : (h : History) → MetaIndexed cap h work → length h ≤ cap → cap ≤ 4096 → nameBefore cap work (length h) ≡ lastName h
   before-new [] c l s = word-none refl ∙ sym latest-none
   before-new (x ∷ h) c l s =
       let e : suc (length h) - 1 ≡ length h = omega arith in
@@ -106,9 +109,6 @@ latest-won : (x : TraceRecord) (h : History) → isWon x ≡ true → lastName (
 unfolding nameBucket
 latest-won x h e = latest-here nameBucket 0 x h (rw e)
 
-none-some : {A : Type 0} → _≡_ {A = Option ℕ} none (some 0) → A
-none-some e = absurd (let z : _≡_ {A = ℕ} 0 1 = cc in omega arith)
-
 latest-kept : (x : TraceRecord) (h : History) → isWon x ≡ false → lastName (x ∷ h) ≡ lastName h
 unfolding nameBucket
 latest-kept x h e = latest-else nameBucket 0 x h (λ q. none-some (sym (rw e) ∙ q))
@@ -121,7 +121,7 @@ noted-word {cap} {n} {v} {work} x h e l m s c false q =
 
 pub noted : {cap n at v w : ℕ} {t : Bool} {x : TraceRecord} {h : History} {work work′ : List ℕ} → length h ≡ n → n < cap → cap ≤ 4096
     → at ≡ latestName * cap + n → v ≡ cond (isWon x) (n + 1) (nameBefore cap work n) → (MetaIndexed cap h work → t ≡ isHighest x h)
-    → w ≡ v + cond t 8192 0 → Put work work′ at w → Noted cap h x work work′
+    → w ≡ v + cond t 8192 0 → Put work work′ at w → MetaNoted cap h x work work′
 noted {cap = cap} {x = x} {h = h} k l s a e f g p = record {
   len = p .len;
   others = λ j m. p .others j (λ q. m (q ∙ a ∙ ap (λ (i : ℕ). latestName * cap + i) (sym k)));
@@ -141,12 +141,12 @@ indexed-clear z = record { names = column-clear nameAsOf z }
 -- ---- the list of names, one name at a time
 
 names-kept : (x : TraceRecord) (h : History) → (nameBucket x h ≡ some 0 → ⊥) → names (x ∷ h) ≡ names h
-unfolding nameBucket names
+unfolding nameBucket
 names-kept x h n = go (isWon x) refl
   where
     go : (b : Bool) → isWon x ≡ b → names (x ∷ h) ≡ names h
     go true e = absurd (n (rw e))
-    go false e = told-skip (λ (y : TraceRecord) (_ : History). when (isWon y) (nameBy y)) x h (rw e)
+    go false e = names-skip x h e
 
 -- what is left of the names of the first k records from the name before place i on: it is one, if there is a record, and
 -- there is none between
@@ -164,10 +164,12 @@ down-latest log k = record {
   same = skip nameBucket 0 log (λ (j : ℕ). names (hist log j)) (look-outside names nameBucket 0 log names-kept) k;
 }
 
-pub down : {work : List ℕ} {k i cap : ℕ} (log : List ℕ) (n : ℕ) → MetaIndexed cap (hist log n) work → k ≤ n → n ≤ cap → cap ≤ 4096 → i ≡ nameBefore cap work k → Down log k i
+pub down : {work : List ℕ} {k i cap : ℕ} (log : List ℕ) (n : ℕ) → MetaIndexed cap (hist log n) work → k ≤ n → n ≤ cap → cap ≤ 4096 → i ≡ nameBefore cap work k
+    → Down log k i
 down {work} {k} {i} {cap} log n c l m s e = let q : i ≡ lastName (hist log k) = e ∙ before-is cap work log n c l m s in rw q (down-latest log k)
 
-pub names-more : (log : List ℕ) {i : ℕ} → 0 < i → isWon (recordAt log (i - 1)) ≡ true → names (hist log i) ≡ nameBy (recordAt log (i - 1)) ∷ names (hist log (i - 1))
+pub names-more : (log : List ℕ) {i : ℕ} → 0 < i → isWon (recordAt log (i - 1)) ≡ true
+    → names (hist log i) ≡ nameBy (recordAt log (i - 1)) ∷ names (hist log (i - 1))
 unfolding names
 names-more log l e = told-found (λ (y : TraceRecord) (_ : History). when (isWon y) (nameBy y)) log l (rw e)
 

@@ -1,17 +1,18 @@
--- The ends of names above a key: the lower of two, where all of them lie, and how many are left.
+-- The ends of names above a key: the lower of two, and where all of them lie.
 use mathlib.Core.Path.{_≡_, refl}
 use mathlib.Core.Bool.{Bool, true, false, cond, _&&_}
-use mathlib.Core.List.{List, [], _∷_}
-use mathlib.Core.Logic.{⊎-elim}
-use Prim.Native.Nat.{ℕ, zero, suc, _+_, _≤_, _<_}
+use mathlib.Core.List.{List, _∷_}
+use Prim.Native.Nat.{ℕ, zero, suc, _<_}
 use native.Mathlib.Decide.{ℕ-discrete}
 use native.Mathlib.Omega.{arith}
 use Rattle.record.specs.Keys.{Key, keyLtb, Lt, Le}
 use Rattle.record.specs.Records.{TraceRecord}
-use Rattle.record.proofs.Keys.{never, lt-or-le, le-refl, lt-le, lt-lt-lt}
+use Rattle.record.proofs.Keys.{le-refl, lt-le}
+use Rattle.record.proofs.Booleans.{never}
 use Rattle.rules.specs.Descriptors.{spanOf}
 use Rattle.rules.specs.History.{History}
-use Rattle.rules.proofs.Members.{Mem, here, there}
+use Rattle.rules.proofs.Members.{Mem}
+use Rattle.rules.proofs.MetaWalks.{ends, ends-more, ends-start, ends-end}
 use Rattle.history.specs.Logs.{recordAt, hist}
 use Rattle.history.proofs.Logs.{hist-suc}
 use Rattle.meta_never_goes_back.specs.Walk.{pull}
@@ -32,26 +33,11 @@ pulled c x b false q e f = record { up = λ l. l; kept = le-refl b; new = λ l. 
 pub pull-is : (c x b : Key) → Pulled c x b (pull c x b)
 pull-is c x b = pulled c x b (keyLtb c x) (keyLtb x b) refl refl
 
--- ---- all the keys where a walk can stop, whatever the work area holds: the ends of every record's second span
+-- ---- the keys where a walk can stop, whatever the work area holds
 
-unfoldable pub ends : History → List Key
-ends [] = []
-ends (x ∷ h) = spanOf 1 x .start ∷ spanOf 1 x .end ∷ ends h
-
-ends-more : (x : TraceRecord) (h : History) {k : Key} → Mem k (ends h) → Mem k (ends (x ∷ h))
-unfolding ends
-ends-more x h m = there (there m)
-
-ends-start : (x : TraceRecord) (h : History) → Mem (spanOf 1 x .start) (ends (x ∷ h))
-unfolding ends
-ends-start x h = here
-
-ends-end : (x : TraceRecord) (h : History) → Mem (spanOf 1 x .end) (ends (x ∷ h))
-unfolding ends
-ends-end x h = there here
-
--- those of the record at a place are among them
-ends-of : (f : TraceRecord → Key) → ((x : TraceRecord) (h : History) → Mem (f x) (ends (x ∷ h))) → (log : List ℕ) (n k : ℕ) → k < n → Mem (f (recordAt log k)) (ends (hist log n))
+-- the ends of the record at a place are among them
+ends-of : (f : TraceRecord → Key) → ((x : TraceRecord) (h : History) → Mem (f x) (ends (x ∷ h))) → (log : List ℕ) (n k : ℕ) → k < n
+    → Mem (f (recordAt log k)) (ends (hist log n))
 ends-of f m log zero k l = absurd (omega arith)
 ends-of f m log (suc n) k l =
     rw (hist-suc log n)
@@ -65,28 +51,3 @@ start-of = ends-of (λ x. spanOf 1 x .start) ends-start
 
 pub end-of : (log : List ℕ) (n k : ℕ) → k < n → Mem (spanOf 1 (recordAt log k) .end) (ends (hist log n))
 end-of = ends-of (λ x. spanOf 1 x .end) ends-end
-
--- ---- how many keys of a list are above c: what is left of a walk
-
-unfoldable pub above : Key → List Key → ℕ
-above c [] = 0
-above c (x ∷ xs) = cond (keyLtb c x) 1 0 + above c xs
-
-above-cons : (c x : Key) (xs : List Key) → above c (x ∷ xs) ≡ cond (keyLtb c x) 1 0 + above c xs
-unfolding above
-above-cons c x xs = refl
-
-one-le : (c n x : Key) → Lt c n → cond (keyLtb n x) 1 0 ≤ cond (keyLtb c x) 1 0
-one-le c n x h = ⊎-elim
-    (λ (l : Lt n x). rw (l .is, lt-lt-lt h l .is) (omega arith))
-    (λ (l : Le x n). rw (l .is) (omega arith))
-    (lt-or-le n x)
-
-above-le : (c n : Key) (xs : List Key) → Lt c n → above n xs ≤ above c xs
-unfolding above
-above-le c n [] h = omega arith
-above-le c n (x ∷ xs) h = omega (arith, one-le c n x h, above-le c n xs h)
-
-pub above-falls : {c n : Key} {xs : List Key} → Lt c n → Mem n xs → above n xs < above c xs
-above-falls {c} {n} h (here {xs = xs}) = rw (above-cons n n xs, above-cons c n xs, le-refl n .is, h .is) (omega (arith, above-le c n xs h))
-above-falls {c} {n} h (there {y = x} {xs = xs} m) = rw (above-cons n x xs, above-cons c x xs) (omega (arith, one-le c n x h, above-falls h m))

@@ -7,16 +7,16 @@ use Prim.Native.Nat.{ℕ, zero, suc, _<_}
 use native.Mathlib.Omega.{arith}
 use Rattle.record.specs.Records.{TraceRecord, decode}
 use Rattle.rules.specs.Cases.{fault, faultIf}
-use Rattle.rules.specs.Descriptors.{Held, Entry, Role, puts, states, neither, heldBy, roleOf, putBy, tellsPut, standing, samePlace, namedEqb, firstAtGeneration}
-use Rattle.rules.specs.History.{History, numberAfter}
+use Rattle.rules.specs.Descriptors.{Held, Entry, heldBy, tellsPut, standing, samePlace, namedEqb, firstAtGeneration}
 use Rattle.rules.specs.MetaNeverGoesBack.{differsFrom, namedFault}
 use Rattle.rules.specs.declared.Case.{Case}
 use Rattle.rules.specs.declared.Found.{Found}
 use Rattle.rules.specs.declared.Found.the-variants.{At, Nothing}
-use Rattle.rules.proofs.Booleans.{none-some}
+use Rattle.record.proofs.Booleans.{none-some}
 use Rattle.rules.proofs.Firsts.{ToldBy, now, before, told-by, firsts-told}
 use Rattle.rules.proofs.LookUps.{Looked, Soonest, Having, firstAtGeneration-right}
 use Rattle.rules.proofs.Members.{Mem}
+use Rattle.rules.proofs.Roles.{puts-entry}
 use Rattle.rules.proofs.Same.{named-differs}
 use Rattle.history.specs.Logs.{bytesAt, recordAt, hist}
 use Rattle.history.proofs.Logs.{hist-length}
@@ -28,25 +28,6 @@ pub record PutAt (log : List ℕ) (n : ℕ) (v : Entry) : Type 0 where
   pub below : place < n
   pub number : v .number ≡ suc place
   pub held : v .held ≡ heldBy (recordAt log place)
-
-abbrev heldOr : Held → Option Entry → Held
-heldOr d none = d
-heldOr d (some v) = v .held
-
-abbrev numberOr : Option Entry → ℕ
-numberOr none = 0
-numberOr (some v) = v .number
-
--- what a record puts is its own value, with its number
-put-held : (r : Role) (x : TraceRecord) (h : History) (v : Entry) → putBy r x h ≡ some v → v .held ≡ heldBy x
-put-held (puts i) x h v e = sym (ap (λ (o : Option Entry). heldOr (heldBy x) o) e)
-put-held (states i) x h v e = none-some e
-put-held neither x h v e = none-some e
-
-put-number : (r : Role) (x : TraceRecord) (h : History) (v : Entry) → putBy r x h ≡ some v → v .number ≡ numberAfter h
-put-number (puts i) x h v e = sym (ap (λ (o : Option Entry). numberOr o) e)
-put-number (states i) x h v e = none-some e
-put-number neither x h v e = none-some e
 
 put-later : {log : List ℕ} {n : ℕ} {v : Entry} → PutAt log n v → PutAt log (suc n) v
 put-later p = record { place = p .place; below = omega (arith, p .below); number = p .number; held = p .held }
@@ -60,8 +41,8 @@ told-at log zero w = told-none w
 told-at log (suc n) {v} (now e) = record {
   place = n;
   below = omega arith;
-  number = put-number (roleOf (recordAt log n) (hist log n)) (recordAt log n) (hist log n) v e ∙ ap suc (hist-length log n);
-  held = put-held (roleOf (recordAt log n) (hist log n)) (recordAt log n) (hist log n) v e;
+  number = ap (λ (u : Entry). u .number) (puts-entry (recordAt log n) (hist log n) e) ∙ ap suc (hist-length log n);
+  held = ap (λ (u : Entry). u .held) (puts-entry (recordAt log n) (hist log n) e);
 }
 told-at log (suc n) (before w) = put-later (told-at log n w)
 

@@ -1,7 +1,7 @@
 -- The inner loop of the walk: over the names, which one stands at the cursor and where the piece ends.
-use mathlib.Core.Path.{_≡_, refl, sym, ap, _∙_}
+use mathlib.Core.Path.{_≡_, sym, ap, _∙_}
 use mathlib.Core.Bool.{true}
-use mathlib.Core.List.{List, [], _∷_}
+use mathlib.Core.List.{List, _∷_}
 use mathlib.Core.Logic.{_⊎_, inl, inr, ⊎-elim}
 use mathlib.Core.Option.{Option, none}
 use Prim.Native.Nat.{ℕ, _-_, _≤_, _<_}
@@ -11,28 +11,18 @@ use Rattle.record.specs.Records.{TraceRecord, decode}
 use Rattle.record.proofs.Keys.{le-le-le}
 use Rattle.rules.specs.Descriptors.{spanOf}
 use Rattle.rules.specs.MetaNeverGoesBack.{Name, isWon, nameBy, names, standingName, bounds}
-use Rattle.rules.proofs.Members.{Mem, here, there, mem-nil}
+use Rattle.rules.proofs.Members.{Mem, here, there}
+use Rattle.rules.proofs.MetaLeast.{bounds-cases, bounds-none}
+use Rattle.rules.proofs.MetaWalks.{ends}
 use Rattle.history.specs.Logs.{bytesAt, recordAt, hist}
 use Rattle.history.proofs.Logs.{record-bytes}
 use Rattle.history.specs.Weighing.{greaterOf}
 use Rattle.history.proofs.Queries.{greater-none}
-use Rattle.meta_never_goes_back.specs.Index.{MetaIndexed, nameBefore}
+use Rattle.meta_never_goes_back.specs.Columns.{MetaIndexed, nameBefore}
 use Rattle.meta_never_goes_back.specs.Walk.{nameNo, stoodWith, pull}
 use Rattle.meta_never_goes_back.proofs.Naming.{Down, down, names-more, names-end}
-use Rattle.meta_never_goes_back.proofs.Pieces.{Pulled, pull-is, ends, start-of, end-of}
+use Rattle.meta_never_goes_back.proofs.Pieces.{Pulled, pull-is, start-of, end-of}
 use Rattle.meta_never_goes_back.proofs.Stood.{indexOf, stood-turn, stood-end}
-
--- ---- where the piece ends
-
-bounds-cases : {A : Type 0} {b : Key} (v : Name) (ns : List Name) → Mem b (bounds (v ∷ ns)) → (b ≡ v .start → A) → (b ≡ v .end → A) → (Mem b (bounds ns) → A) → A
-unfolding bounds
-bounds-cases v ns here f g h = f refl
-bounds-cases v ns (there here) f g h = g refl
-bounds-cases v ns (there (there m)) f g h = h m
-
-bounds-none : {A : Type 0} {b : Key} → Mem b (bounds []) → A
-unfolding bounds
-bounds-none m = mem-nil m
 
 -- ---- the inner loop: of the names of the first n records, those before place i are left
 
@@ -41,7 +31,7 @@ pub record Seen (log : List ℕ) (n : ℕ) (c : Key) (best : Option Name) (next 
   pub stand : standingName (names (hist log n)) c ≡ greaterOf indexOf best (standingName (names (hist log i)) c)
   pub gap : (b : Key) → Mem b (bounds (names (hist log n))) → Lt c b → Le next b ⊎ Mem b (bounds (names (hist log i)))
 
-pub seen-first : {log : List ℕ} {n i : ℕ} (c next : Key) → Down log n i → Seen log n c none next i
+seen-first : {log : List ℕ} {n i : ℕ} (c next : Key) → Down log n i → Seen log n c none next i
 seen-first {log} c next d = record {
   here = d .here;
   stand = ap (λ (ns : List Name). standingName ns c) (d .same) ∙ sym (greater-none indexOf _);
@@ -50,7 +40,7 @@ seen-first {log} c next d = record {
 
 module _ {log : List ℕ} {n : ℕ} {c next : Key} {best : Option Name} {i : ℕ} (s : Seen log n c best next i) where
   -- the name before place i, which begins at x and ends at y; near and far are what the calls gave
-  pub seen-more : {best′ : Option Name} {x y near far : Key} {j : ℕ} → 0 < i → best′ ≡ stoodWith c best (nameBy (recordAt log (i - 1)))
+  seen-more : {best′ : Option Name} {x y near far : Key} {j : ℕ} → 0 < i → best′ ≡ stoodWith c best (nameBy (recordAt log (i - 1)))
       → x ≡ spanOf 1 (recordAt log (i - 1)) .start → y ≡ spanOf 1 (recordAt log (i - 1)) .end → near ≡ pull c x next → far ≡ pull c y near
       → Down log (i - 1) j → Seen log n c best′ far j
   seen-more {best′} {x} {y} {near} {far} {j} l t p q a z d =
@@ -102,7 +92,8 @@ module _ {log work : List ℕ} {count cap : ℕ} (fits : count ≤ cap) (small :
   }
 
   pub turn-more : {standing i standing′ j : ℕ} {next far old : List ℕ} {x y near : Key} → Turn log work count cap end cur standing next i → (i ≡ 0 → ⊥)
-      → (nameNo log standing′ ≡ stoodWith (keyIn cur) (nameNo log standing) (nameBy (recordAt log (i - 1)))) × ((n : ℕ) → standing ≤ n → i - 1 < n → standing′ ≤ n)
+      → (nameNo log standing′ ≡ stoodWith (keyIn cur) (nameNo log standing) (nameBy (recordAt log (i - 1)))) ×
+      ((n : ℕ) → standing ≤ n → i - 1 < n → standing′ ≤ n)
       → old ≡ bytesAt (i - 1) log → x ≡ spanOf 1 (decode old) .start → near ≡ pull (keyIn cur) x (keyIn next)
       → y ≡ spanOf 1 (decode old) .end → keyIn far ≡ pull (keyIn cur) y near → (j ≤ i - 1) × (j ≡ nameBefore cap work (i - 1))
       → Turn log work count cap end cur standing′ far j

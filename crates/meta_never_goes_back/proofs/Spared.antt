@@ -2,32 +2,29 @@
 use mathlib.Core.Path.{_≡_, refl, sym, ap, _∙_}
 use mathlib.Core.Bool.{Bool, true, false, cond, _||_, not, _&&_}
 use mathlib.Core.List.{List, _∷_}
-use mathlib.Core.Option.{Option, none, some}
 use Prim.Native.Nat.{ℕ, _-_, _<_}
 use lib.Dec.{ltb, leb}
-use borrow.Author.Tests.{ltb-true, ltb-false, lt-ltb, le-ltb, leb-true, le-leb, lt-leb}
-use Rattle.record.specs.Keys.{Key, Lt, Le}
+use borrow.Author.Tests.{not-true, ltb-true, ltb-false, lt-ltb, le-ltb, leb-true, le-leb, lt-leb}
+use Rattle.record.specs.Keys.{Key, keyLtb, Lt, Le}
 use Rattle.record.specs.Records.{TraceRecord, decode}
 use Rattle.record.proofs.Keys.{le-lt-lt}
-use Rattle.rules.specs.Cases.{isFault, faultIf, caseOf}
+use Rattle.rules.specs.Cases.{isFault, faultIf}
 use Rattle.rules.specs.Descriptors.{spanOf}
-use Rattle.rules.specs.History.{anyOf}
-use Rattle.rules.specs.MetaNeverGoesBack.{Name, covers, standingName, nameFault, keyFault, wonFault, nameBy, names, metaAt, clean}
+use Rattle.rules.specs.History.{History, anyOf}
+use Rattle.rules.specs.MetaNeverGoesBack.{Name, covers, nameFault, wonFault, nameBy, names, metaAt}
 use Rattle.rules.specs.Reports.{atLast, reportOf}
 use Rattle.rules.specs.declared.Case.{Case}
 use Rattle.rules.specs.declared.Case.the-variants.{Clear}
 use Rattle.rules.specs.declared.Verdict.the-variants.{Pass}
-use Rattle.rules.proofs.Best.{Greatest}
-use Rattle.rules.proofs.Booleans.{and-left, and-right}
-use Rattle.rules.proofs.Members.{Mem, here, there, NonePasses, anyOf-none}
-use Rattle.rules.proofs.MetaLeast.{standingName-right, wonFault-found}
-use Rattle.rules.proofs.Placed.{Answer, placed-mem}
+use Rattle.record.proofs.Booleans.{and-left, and-right}
+use Rattle.rules.proofs.Members.{Mem, here, there, anyOf-none}
+use Rattle.rules.proofs.MetaHighest.{covered-low, covered-high, Passes, covered-clear}
+use Rattle.rules.proofs.MetaLeast.{names-clear}
 use Rattle.rules.proofs.Skips.{anyOf-nil, anyOf-skip}
 use Rattle.history.specs.Logs.{bytesAt, recordAt, hist}
 use Rattle.history.proofs.Logs.{record-bytes}
-use Rattle.meta_never_goes_back.specs.Index.{surpasses}
-use Rattle.meta_never_goes_back.specs.Walk.{against, meets, opposes, coversAll, Passed}
-use Rattle.meta_never_goes_back.proofs.Highest.{covered-low, covered-high, covered-clear}
+use Rattle.meta_never_goes_back.specs.Columns.{surpasses}
+use Rattle.meta_never_goes_back.specs.Walk.{against, meets, opposes, notLower, contains, coversAll, Passed}
 use Rattle.meta_never_goes_back.proofs.Naming.{Down, names-more, names-end}
 
 -- a name is at fault by its numbers
@@ -65,19 +62,26 @@ drop-meets : (a m : Bool) → (a && m) ≡ false → m ≡ true → a ≡ false
 drop-meets true m e f = sym f ∙ e
 drop-meets false m e f = refl
 
-module _ (x : TraceRecord) (ns : List Name) (h : NonePasses (opposes x) ns) where
-  clear-by : (k : Key) → Le (spanOf 1 x .start) k → Lt k (spanOf 1 x .end) → (o : Option Name)
-      → Answer (Greatest (λ n. n .index) (covers k) ns) (covers k) ns o → isFault (caseOf (nameFault x) o) ≡ false
-  clear-by k a b none w = refl
-  clear-by k a b (some n) w =
-      fault-against x n ∙ drop-meets (against x n) (meets x n) (h n (placed-mem (w .place))) (does-meet x n k a b (w .place .passes))
-
-  clear-key : (k : Key) → Le (spanOf 1 x .start) k → Lt k (spanOf 1 x .end) → isFault (keyFault x ns k) ≡ false
-  unfolding keyFault
-  clear-key k a b = clear-by k a b (standingName ns k) (standingName-right ns k)
-
 spared : (x : TraceRecord) (ns : List Name) → anyOf (opposes x) ns ≡ false → wonFault x ns ≡ Clear
-spared x ns e = wonFault-found x ns (clean (clear-key x ns (anyOf-none (opposes x) ns e)) refl)
+spared x ns e =
+    names-clear x ns
+    (λ k a b n m c. fault-against x n ∙ drop-meets (against x n) (meets x n) (anyOf-none (opposes x) ns e n m) (does-meet x n k a b c))
+
+-- where an earlier name covers the new one, neither
+module _ (x : TraceRecord) (o : Name) (e : coversAll x o ≡ true) where
+  numbers : notLower x o ≡ true
+  numbers = and-left (notLower x o) (contains x o) e
+
+  keys : contains x o ≡ true
+  keys = and-right (notLower x o) (contains x o) e
+
+  spared-covered : (h : History) → Passes h → Mem o (names h) → wonFault x (names h) ≡ Clear
+  spared-covered h p i =
+      covered-clear x h p i
+      (leb-true (x .b) (o .index) (and-left (leb (x .b) (o .index)) (leb (x .d) (o .generation)) numbers))
+      (leb-true (x .d) (o .generation) (and-right (leb (x .b) (o .index)) (leb (x .d) (o .generation)) numbers))
+      (record { is = not-true _ (and-left (not (keyLtb (spanOf 1 x .start) (o .start))) (not (keyLtb (o .end) (spanOf 1 x .end))) keys) })
+      (record { is = not-true _ (and-right (not (keyLtb (spanOf 1 x .start) (o .start))) (not (keyLtb (o .end) (spanOf 1 x .end))) keys) })
 
 -- ---- a scan of the names, newest first
 
@@ -102,7 +106,7 @@ module _ {x : TraceRecord} {log : List ℕ} where
       -- the next one covers the new one; it does not oppose it; the new one surpasses it
       pub passed-covered : {t : Bool} → t ≡ coversAll x (nameBy (decode old)) → t ≡ true → reportOf (atLast metaAt) (hist log n) .verdict ≡ Pass
           → wonFault x (names (hist log n)) ≡ Clear
-      passed-covered e q p = covered-clear x (hist log n) p (w .among next (rw left here)) (tested (coversAll x) e q)
+      passed-covered e q p = spared-covered x next (tested (coversAll x) e q) (hist log n) p (w .among next (rw left here))
 
       pub passed-by : {j : ℕ} → opposes x next ≡ false → Down log (i - 1) j → Passed x log n j
       passed-by q d = record {

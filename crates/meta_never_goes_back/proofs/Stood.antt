@@ -52,13 +52,15 @@ module _ (log : List ℕ) (c : Key) (b i : ℕ) {d : Bool} {old : List ℕ} (o :
   stands-alone f z = rw (sym covered ∙ f, name-more log i, z) (sym (greater-none indexOf _))
 
   pub stands-instead : d ≡ true → (b ≡ 0 → ⊥) → recordAt log (b - 1) .b ≤ recordAt log i .b → with-it (i + 1)
-  stands-instead f z l = rw (sym covered ∙ f, name-more log i, name-of log z) (sym (greater-take indexOf {w = nameBy (recordAt log (b - 1))} {v = nameBy (recordAt log i)} l))
+  stands-instead f z l =
+      rw (sym covered ∙ f, name-more log i, name-of log z) (sym (greater-take indexOf {w = nameBy (recordAt log (b - 1))} {v = nameBy (recordAt log i)} l))
 
   pub stands-still : d ≡ true → (b ≡ 0 → ⊥) → recordAt log i .b < recordAt log (b - 1) .b → with-it b
   stands-still f z l = rw (sym covered ∙ f, name-of log z) (sym (greater-keep indexOf {w = nameBy (recordAt log (b - 1))} {v = nameBy (recordAt log i)} l))
 
 -- the case of a key by the number of its standing name
-pub case-named : (x : TraceRecord) (log : List ℕ) {b : ℕ} {old : List ℕ} {r : Case} → (b ≡ 0 → ⊥) → old ≡ bytesAt (b - 1) log → r ≡ nameFault x (nameBy (decode old))
+pub case-named : (x : TraceRecord) (log : List ℕ) {b : ℕ} {old : List ℕ} {r : Case} → (b ≡ 0 → ⊥) → old ≡ bytesAt (b - 1) log
+    → r ≡ nameFault x (nameBy (decode old))
     → r ≡ caseOf (nameFault x) (nameNo log b)
 case-named x log {b} n o e =
     e ∙ ap (λ (y : TraceRecord). nameFault x (nameBy y)) (record-bytes log (b - 1) o) ∙ ap (caseOf (nameFault x)) (sym (name-of log n))

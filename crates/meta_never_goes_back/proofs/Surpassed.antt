@@ -12,12 +12,12 @@ use borrow.Author.Tests.{not-true, not-false, ltb-true, lt-ltb, le-ltb, leb-true
 use Rattle.record.specs.Records.{TraceRecord, decode}
 use Rattle.rules.specs.History.{History, anyOf}
 use Rattle.rules.specs.MetaNeverGoesBack.{Name, isWon, nameBy, names}
-use Rattle.rules.proofs.Booleans.{and-left, and-right, both}
+use Rattle.record.proofs.Booleans.{and-left, and-right, both}
 use Rattle.rules.proofs.Members.{Mem, here, mem-nil, anyOf-mem, anyOf-none, none-anyOf}
 use Rattle.rules.proofs.Skips.{anyOf-nil, anyOf-skip}
 use Rattle.history.specs.Logs.{bytesAt, recordAt, hist}
 use Rattle.history.specs.Places.{latestName}
-use Rattle.meta_never_goes_back.specs.Index.{surpasses, unsurpassed, isHighest, MetaIndexed}
+use Rattle.meta_never_goes_back.specs.Columns.{surpasses, unsurpassed, isHighest, MetaIndexed}
 use Rattle.meta_never_goes_back.specs.Walk.{opposes, Passed, Skipped}
 use Rattle.meta_never_goes_back.proofs.Naming.{Down, names-end, marked-highest}
 use Rattle.meta_never_goes_back.proofs.Spared.{surpassed-clear, left, passed-by, surpassed-next}
@@ -125,10 +125,12 @@ none-left r =
       | no e ↦ rw (ne-eqb r 0 e, lt-ltb 0 r (omega arith))
     ]
 
-pub highest-is : {x : TraceRecord} {log : List ℕ} {n from r : ℕ} → isWon x ≡ true → Down log n from → Skipped x log n from r → eqb r 0 ≡ isHighest x (hist log n)
+pub highest-is : {x : TraceRecord} {log : List ℕ} {n from r : ℕ} → isWon x ≡ true → Down log n from → Skipped x log n from r
+    → eqb r 0 ≡ isHighest x (hist log n)
 unfolding isHighest
 highest-is {x} {log} {n} {from} {r} e d s =
-    none-left r ∙ ap not (sym (ap (anyOf (unsurpassed x)) (d .same) ∙ s .rest)) ∙ sym (ap (λ (b : Bool). b && not (anyOf (unsurpassed x) (names (hist log n)))) e)
+    none-left r ∙ ap not (sym (ap (anyOf (unsurpassed x)) (d .same) ∙ s .rest))
+    ∙ sym (ap (λ (b : Bool). b && not (anyOf (unsurpassed x) (names (hist log n)))) e)
 
 pub highest-not : (x : TraceRecord) (h : History) → isWon x ≡ false → false ≡ isHighest x h
 unfolding isHighest

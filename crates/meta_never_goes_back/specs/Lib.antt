@@ -1,3 +1,3 @@
--- What the column of `MetaNeverGoesBack` holds, and what the parts of the check say.
-pub mod Index
+-- What the column of `MetaNeverGoesBack` holds and what a note promises, and what the parts of the check say.
+pub mod Columns
 pub mod Walk

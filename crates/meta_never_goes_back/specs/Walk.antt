@@ -13,7 +13,7 @@ use Rattle.rules.specs.History.{Mem, anyOf}
 use Rattle.rules.specs.MetaNeverGoesBack.{Name, isWon, nameBy, names, covers}
 use Rattle.history.specs.Logs.{recordAt, hist}
 use Rattle.history.specs.Weighing.{greatestStep}
-use Rattle.meta_never_goes_back.specs.Index.{unsurpassed}
+use Rattle.meta_never_goes_back.specs.Columns.{unsurpassed}
 
 -- the name that the record of a number gives, none for 0
 abbrev pub nameNo : List ℕ → ℕ → Option Name

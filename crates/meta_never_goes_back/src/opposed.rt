@@ -1,7 +1,7 @@
 // The names that can be in conflict with a new one: most records have none, and need no walk. The scan for one is short
 // where a recent name covers the new one.
-use crate::names::is_marked;
-use crate::names::name_before;
+use crate::cells::is_marked;
+use crate::cells::name_before;
 use crate::won::is_won;
 use history::log::record_at;
 use history::span::end_of;
@@ -21,7 +21,7 @@ ghost use Rattle.rules.specs.MetaNeverGoesBack.{nameBy, names, wonFault, metaAt
 ghost use Rattle.rules.specs.Reports.{atLast, reportOf};
 ghost use Rattle.history.specs.Bounds.{Bounds};
 ghost use Rattle.history.specs.Logs.{hist};
-ghost use Rattle.meta_never_goes_back.specs.Index.{isHighest, MetaIndexed};
+ghost use Rattle.meta_never_goes_back.specs.Columns.{isHighest, MetaIndexed};
 ghost use Rattle.meta_never_goes_back.specs.Walk.{meets, opposes, contains, coversAll, Passed, Skipped};
 
 // Whether the numbers of an earlier name are against those of a new one.

@@ -1,6 +1,6 @@
 // The won span against the names that stand at its keys: kinds 3 and 4.
+use crate::cells::name_before;
 use crate::fault::name_fault;
-use crate::names::name_before;
 use crate::opposed::any_opposed;
 use crate::won::is_won;
 use history::log::record_at;
@@ -9,18 +9,19 @@ use history::span::start_of;
 use record::field::b;
 use record::key::key_less;
 use rules::Case;
+use rules::is_fault;
 ghost use mathlib.Core.Path.{_≡_};
 ghost use Prim.Native.Nat.{ℕ, _+_, _*_, _≤_, _<_};
 ghost use lib.ListN.{length};
 ghost use Rattle.record.specs.Keys.{keyIn};
 ghost use Rattle.record.specs.Records.{decode};
-ghost use Rattle.rules.specs.Cases.{faultIf, isFault, caseOf};
+ghost use Rattle.rules.specs.Cases.{faultIf, caseOf};
 ghost use Rattle.rules.specs.declared.Verdict.the-variants.{Pass};
 ghost use Rattle.rules.specs.MetaNeverGoesBack.{isWon, nameBy, names, covers, nameFault, wonFault, metaAt};
 ghost use Rattle.rules.specs.Reports.{atLast, reportOf};
 ghost use Rattle.history.specs.Bounds.{Bounds};
 ghost use Rattle.history.specs.Logs.{recordAt, hist};
-ghost use Rattle.meta_never_goes_back.specs.Index.{MetaIndexed};
+ghost use Rattle.meta_never_goes_back.specs.Columns.{MetaIndexed};
 ghost use Rattle.meta_never_goes_back.specs.Walk.{nameNo, stoodWith, pull};
 
 // Whether a record's won span has a key.
@@ -67,7 +68,7 @@ fn nearer<'a>(c: &[u8], x: &'a [u8], b: &'a [u8]) -> &'a [u8]
 }
 
 // The case of a key by the number of the name that stands there.
-fn case_by(log: &[u8], standing: usize, rec: &[u8]) -> Case
+fn key_case(log: &[u8], standing: usize, rec: &[u8]) -> Case
     requires { ⌜ (368 * standing ≤ length (now log)) × (length (now rec) ≡ 368) ⌝ }
     ensures { λ r. ⌜ r ≡ caseOf (nameFault (decode (now (rec .entry)))) (nameNo (now (log .entry)) standing) ⌝ }
 {
@@ -77,18 +78,9 @@ fn case_by(log: &[u8], standing: usize, rec: &[u8]) -> Case
     name_fault(rec, record_at(log, standing - 1))
 }
 
-fn is_fault(case: Case) -> bool
-    ensures { λ r. ⌜ r ≡ isFault «case» ⌝ }
-{
-    match case {
-        Case::Clear => false,
-        Case::Fault(_, _) => true,
-    }
-}
-
 // The fault of the won span: piece by piece in key order, each against the name that stands there, up to the first faulty
 // one. A piece begins at the cursor and goes up to the next end of a name.
-fn walk<'a>(log: &'a [u8], work: &[u64], count: usize, cap: usize, rec: &'a [u8]) -> Case
+fn walk_case<'a>(log: &'a [u8], work: &[u64], count: usize, cap: usize, rec: &'a [u8]) -> Case
     requires { ⌜ Bounds (now log) (now work) count cap × (length (now rec) ≡ 368) ⌝ }
     ensures { λ r. ⌜ (MetaIndexed cap (hist (now (log .entry)) count) (now (work .entry)) → r ≡ wonFault (decode (now (rec .entry))) (names (hist (now (log .entry)) count))) ⌝ }
 {
@@ -104,7 +96,7 @@ fn walk<'a>(log: &'a [u8], work: &[u64], count: usize, cap: usize, rec: &'a [u8]
         let mut i = name_before(work, cap, count);
         loop {
             if i == 0 {
-                let case = case_by(log, standing, rec);
+                let case = key_case(log, standing, rec);
                 if is_fault(case) {
                     break 'walk case;
                 }
@@ -123,7 +115,7 @@ fn walk<'a>(log: &'a [u8], work: &[u64], count: usize, cap: usize, rec: &'a [u8]
 }
 
 // The case of the keys that a record wins, while the report is a pass.
-pub fn won<'a>(log: &'a [u8], work: &[u64], count: usize, cap: usize, rec: &'a [u8]) -> Case
+pub fn won_case<'a>(log: &'a [u8], work: &[u64], count: usize, cap: usize, rec: &'a [u8]) -> Case
     requires { ⌜ Bounds (now log) (now work) count cap × (length (now rec) ≡ 368) ⌝ }
     ensures { λ r. ⌜ (MetaIndexed cap (hist (now (log .entry)) count) (now (work .entry)) → reportOf (atLast metaAt) (hist (now (log .entry)) count) .verdict ≡ Pass → r ≡ faultIf (isWon (decode (now (rec .entry)))) (wonFault (decode (now (rec .entry))) (names (hist (now (log .entry)) count)))) ⌝ }
 {
@@ -133,5 +125,5 @@ pub fn won<'a>(log: &'a [u8], work: &[u64], count: usize, cap: usize, rec: &'a [
     if !any_opposed(log, work, count, cap, rec) {
         return Case::Clear;
     }
-    walk(log, work, count, cap, rec)
+    walk_case(log, work, count, cap, rec)
 }

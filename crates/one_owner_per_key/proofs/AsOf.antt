@@ -16,15 +16,16 @@ use Rattle.history.proofs.Logs.{hist-none, hist-length, hist-suc}
 use Rattle.history.proofs.Cells.{cell-at}
 use Rattle.history.proofs.Chains.{clamped}
 use Rattle.one_owner_per_key.specs.Numbers.{latestBy, endsAll, latestEnd, newlyHolds, latestNewly}
-use Rattle.one_owner_per_key.specs.Index.{OwnersIndexed, newlyCell, endedCell, wordBy, bit, endIn, newestIn, beforeIn}
-use Rattle.rules.proofs.Booleans.{and-left}
-use Rattle.one_owner_per_key.proofs.Marks.{by-marked}
+use Rattle.one_owner_per_key.specs.Columns.{OwnersIndexed, newlyCell, endedCell, wordBy, bit, endIn, newestIn, beforeIn}
+use Rattle.record.proofs.Booleans.{and-left}
+use Rattle.rules.proofs.Marks.{by-marked}
 use Rattle.one_owner_per_key.proofs.Latest.{number-none, number-bound, number-is, number-step, at-miss, as-of}
 
 -- the cells of a node's record
 pub newly-cell : (node : ℕ) (x : TraceRecord) (h : History) → isBy node x ≡ true → newlyCell x h ≡ 2 * latestNewly node h + bit (newlyHolds node x h)
 unfolding newlyCell
-newly-cell node x h e = by-marked (λ n. 2 * latestNewly n h + bit (newlyHolds n x h)) (wordBy (λ n. 2 * latestNewly n h + bit (newlyHolds n x h))) (λ n. refl) node (x .node) e
+newly-cell node x h e =
+    by-marked (λ n. 2 * latestNewly n h + bit (newlyHolds n x h)) (wordBy (λ n. 2 * latestNewly n h + bit (newlyHolds n x h))) (λ n. refl) node (x .node) e
 
 pub ended-cell : (node : ℕ) (x : TraceRecord) (h : History) → isBy node x ≡ true → endedCell x h ≡ latestEnd node (x ∷ h)
 unfolding endedCell
@@ -65,7 +66,8 @@ module _ (log : List ℕ) (count node : ℕ) {cap : ℕ} {work : List ℕ} (ix :
       let s : suc k - 1 ≡ k = omega arith in
       let q : isBy node (recordAt log k) ≡ true = rw s at (e (omega arith)) in
       rw (eqb·suc-zero, s)
-      (clamped (getD work (21 * cap + k) 0) (latestEnd node (hist log (suc k))) (suc k) (ended-word k (omega arith) q) (number-bound (λ x _. endsAll node x) log (suc k)))
+      (clamped (getD work (21 * cap + k) 0) (latestEnd node (hist log (suc k))) (suc k) (ended-word k (omega arith) q)
+      (number-bound (λ x _. endsAll node x) log (suc k)))
 
   newest-at : (last : ℕ) → last ≤ count → (0 < last → isBy node (recordAt log (last - 1)) ≡ true) → newestIn work cap last ≡ latestNewly node (hist log last)
   newest-at zero l e = sym (rw (hist-none, number-none (newlyHolds node)))

@@ -1,6 +1,6 @@
 -- Laws of what a node holds: by the record found, by the latest that says so against the node's latest end, and since when.
 use mathlib.Core.Path.{_≡_, refl, sym, ap, _∙_}
-use mathlib.Core.Bool.{Bool, true, false, cond, not, _&&_, _||_}
+use mathlib.Core.Bool.{Bool, true, false, cond, not, _&&_, _||_, and-false, or-assoc}
 use mathlib.Core.List.{List, [], _∷_}
 use mathlib.Core.Logic.{inl, inr}
 use mathlib.Core.Option.{Option, none, some}
@@ -8,40 +8,22 @@ use Prim.Native.Nat.{ℕ, zero, suc, _-_, _≤_, _<_}
 use native.Mathlib.Omega.{arith}
 use lib.ListN.{length}
 use lib.Dec.{eqb, ltb, eqb·suc-zero}
-use borrow.Author.Tests.{lt-ltb, le-ltb, eqb-true}
+use borrow.Author.Tests.{lt-ltb, le-ltb, eqb-true, eq-eqb, ne-eqb}
 use Rattle.record.specs.Records.{Span, TraceRecord}
-use Rattle.rules.specs.History.{History, isKind, isBy, Change, becomes, ends, lasting, isSome, orElse, when, latest}
+use Rattle.rules.specs.History.{History, isKind, isBy, isSome}
 use Rattle.rules.specs.Descriptors.{spanOf}
-use Rattle.rules.specs.OneOwnerPerKey.{isHolding, isEnding, tellsHold, holdOf, hasHold}
+use Rattle.rules.specs.OneOwnerPerKey.{isHolding, isEnding, holdOf, hasHold}
 use Rattle.history.specs.Logs.{recordAt, hist}
 use Rattle.history.proofs.Logs.{hist-none, hist-length, hist-suc}
 use Rattle.one_owner_per_key.specs.Numbers.{endsAll, latestEnd, newlyHolds, saysHold, latestHold, holdNumber}
-use Rattle.rules.proofs.Booleans.{never, decide, kind-apart}
-use Rattle.one_owner_per_key.proofs.Marks.{and-none}
+use Rattle.record.proofs.Booleans.{never, decide, or-elim, or-neither}
+use Rattle.rules.proofs.Marks.{kind-apart}
+use Rattle.rules.proofs.Holds.{span-none, span-step}
 use Rattle.one_owner_per_key.proofs.Latest.{number-none, number-bound, at-hit, at-miss}
 
 -- ---- one record on
 
-span-cases : (b u v : Bool) (s : Span) (l : Option (Change Span))
-    → lasting (orElse (cond b (cond u (some (becomes s)) (when v ends)) none) l)
-    ≡ cond b (cond u (some s) (cond v none (lasting l))) (lasting l)
-span-cases true true v s l = refl
-span-cases true false true s l = refl
-span-cases true false false s l = refl
-span-cases false u v s l = refl
-
 module _ (node range : ℕ) where
-  pub span-none : holdOf node range [] ≡ none
-  unfolding holdOf latest
-  span-none = refl
-
-  pub span-step : (x : TraceRecord) (h : History) → holdOf node range (x ∷ h)
-      ≡ cond (isBy node x)
-      (cond (isHolding x && eqb (x .a) range) (some (spanOf 0 x)) (cond (isEnding range x) none (holdOf node range h))) (holdOf node range h)
-  unfolding holdOf latest
-  span-step x h =
-      span-cases (isBy node x) (isHolding x && eqb (x .a) range) (isEnding range x) (spanOf 0 x) (latest (tellsHold node range) h)
-
   pub held-none : holdNumber node range [] ≡ 0
   unfolding holdNumber
   held-none = refl
@@ -89,26 +71,29 @@ held-some node range (x ∷ h) =
     (some-cases (length h) (holdNumber node range h) (spanOf 0 x) (holdOf node range h) (isBy node x) (isHolding x && eqb (x .a) range) (isEnding range x)
     (held-some node range h))
 
+module _ (node range : ℕ) (h : History) {k : ℕ} (e : k ≡ holdNumber node range h) where
+  pub held-over : (k ≡ 0 → ⊥) → hasHold node range h ≡ true
+  held-over z = held-some node range h ∙ rw (← e, ne-eqb k 0 z)
+
+  pub held-zero : k ≡ 0 → hasHold node range h ≡ false
+  held-zero z = held-some node range h ∙ rw (← e, eq-eqb k 0 z)
+
 -- ---- the latest that says so, against the node's latest end
 
 -- what the code makes of the two: the latest that says so, where it is later and says that the range is held
 abbrev pub heldIf : List ℕ → ℕ → ℕ → ℕ
 heldIf log ended k = cond (ltb ended k) (cond (isHolding (recordAt log (k - 1))) k 0) 0
 
-or-case : {A : Type 0} (a b : Bool) → a || b ≡ true → (a ≡ true → A) → (b ≡ true → A) → A
-or-case true b e f g = f refl
-or-case false b e f g = g e
-
 -- kinds 1 and 2 are none of 6, 9 and 10
 holding-apart : (k : ℕ) (x : TraceRecord) → (1 ≡ k → ⊥) → (2 ≡ k → ⊥) → isHolding x ≡ true → isKind k x ≡ false
-holding-apart k x n m e = or-case (isKind 1 x) (isKind 2 x) e (kind-apart 1 k x n) (kind-apart 2 k x m)
+holding-apart k x n m e = or-elim (isKind 1 x) (isKind 2 x) e (kind-apart 1 k x n) (kind-apart 2 k x m)
 
 pub holding-goes-on : (node : ℕ) (x : TraceRecord) → isHolding x ≡ true → endsAll node x ≡ false
 holding-goes-on node x e =
-    rw (holding-apart 6 x (λ q. omega arith) (λ q. omega arith) e, holding-apart 10 x (λ q. omega arith) (λ q. omega arith) e, and-none)
+    rw (holding-apart 6 x (λ q. omega arith) (λ q. omega arith) e, holding-apart 10 x (λ q. omega arith) (λ q. omega arith) e, and-false)
 
 removal-goes-on : (node : ℕ) (x : TraceRecord) → isKind 9 x ≡ true → endsAll node x ≡ false
-removal-goes-on node x e = rw (kind-apart 9 6 x (λ q. omega arith) e, kind-apart 9 10 x (λ q. omega arith) e, and-none)
+removal-goes-on node x e = rw (kind-apart 9 6 x (λ q. omega arith) e, kind-apart 9 10 x (λ q. omega arith) e, and-false)
 
 removal-holds-none : (x : TraceRecord) → isKind 9 x ≡ true → isHolding x ≡ false
 removal-holds-none x e = rw (kind-apart 9 1 x (λ q. omega arith) e, kind-apart 9 2 x (λ q. omega arith) e)
@@ -153,15 +138,11 @@ module _ (node range : ℕ) (log : List ℕ) where
       → cond b (cond (p && a) (suc n) (cond (q && a || z) 0 (holdNumber node range (hist log n)))) (holdNumber node range (hist log n)) ≡ by-ends (suc n)
   step n false p q a z eb ep eq ea ez ih = pass n (rw eb) (rw eb) ih
   step n true true q true z eb ep eq ea ez ih = sym (says n true ep (rw (eb, ep, ea)) (holding-goes-on node (recordAt log n) ep))
-  step n true true true false z eb ep eq ea ez ih = other n z eb ez (rw (ea, and-none)) ih
-  step n true true false false z eb ep eq ea ez ih = other n z eb ez (rw (ea, and-none)) ih
+  step n true true true false z eb ep eq ea ez ih = other n z eb ez (rw (ea, and-false)) ih
+  step n true true false false z eb ep eq ea ez ih = other n z eb ez (rw (ea, and-false)) ih
   step n true false true true z eb ep eq ea ez ih = sym (says n false ep (rw (eb, ep, eq, ea)) (removal-goes-on node (recordAt log n) eq))
-  step n true false true false z eb ep eq ea ez ih = other n z eb ez (rw (ea, and-none)) ih
+  step n true false true false z eb ep eq ea ez ih = other n z eb ez (rw (ea, and-false)) ih
   step n true false false a z eb ep eq ea ez ih = other n z eb ez (rw (eb, ep, eq)) ih
-
-or-assoc : (a b c : Bool) → a || b || c ≡ a || (b || c)
-or-assoc true b c = refl
-or-assoc false b c = refl
 
 -- THE HOLD LAW
 pub held-by-ends : (node range : ℕ) (log : List ℕ) (n : ℕ)
@@ -178,15 +159,11 @@ held-by-ends node range log (suc n) =
     (held-by-ends node range log n))
 
 -- a record that does not end the hold of a range does not end all
-or-false : (a b : Bool) → a || b ≡ false → (a ≡ false) × (b ≡ false)
-or-false true b e = never refl e
-or-false false b e = (refl, e)
-
 goes-on : (node range : ℕ) (x : TraceRecord) → isEnding range x ≡ false → endsAll node x ≡ false
 goes-on node range x e =
-    let u = or-false (isKind 9 x && eqb (x .a) range || isKind 6 x) (isKind 10 x) e in
-    let v = or-false (isKind 9 x && eqb (x .a) range) (isKind 6 x) (u .0) in
-    rw (v .1, u .1, and-none)
+    let u = or-neither (isKind 9 x && eqb (x .a) range || isKind 6 x) (isKind 10 x) e in
+    let v = or-neither (isKind 9 x && eqb (x .a) range) (isKind 6 x) (u .0) in
+    rw (v .1, u .1, and-false)
 
 -- ---- since when
 

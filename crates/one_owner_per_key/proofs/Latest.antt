@@ -12,7 +12,7 @@ use Rattle.rules.specs.History.{History}
 use Rattle.history.specs.Logs.{recordAt, hist}
 use Rattle.history.proofs.Logs.{hist-none, hist-length, hist-suc}
 use Rattle.one_owner_per_key.specs.Numbers.{latestNumber}
-use Rattle.rules.proofs.Booleans.{decide, never}
+use Rattle.record.proofs.Booleans.{decide, never}
 
 module _ (t : TraceRecord → History → Bool) where
   pub number-none : latestNumber t [] ≡ 0

@@ -1,12 +1,8 @@
 -- The laws that the proofs of this crate, and of the right half's above it, cite, by topic.
-pub mod Marks
 pub mod Latest
 pub mod Holds
 pub mod AsOf
-pub mod Lowest
 pub mod Meets
-pub mod Spans
-pub mod Groups
 pub mod Walks
 pub mod Checks
 pub mod Notes

@@ -13,10 +13,10 @@ use Rattle.rules.specs.OneOwnerPerKey.{holdOf, hasHold, meets, lowestMeeting}
 use Rattle.history.specs.Logs.{recordAt, hist}
 use Rattle.one_owner_per_key.specs.Numbers.{newlyHolds, latestEnd, latestNewly}
 use Rattle.rules.proofs.Candidates.{holds-some, lowestMeeting-right}
-use Rattle.rules.proofs.Booleans.{and-right}
+use Rattle.record.proofs.Booleans.{and-right}
 use Rattle.one_owner_per_key.proofs.Latest.{number-is, number-over}
 use Rattle.one_owner_per_key.proofs.Holds.{Began, began}
-use Rattle.one_owner_per_key.proofs.Lowest.{atMost, Sound, Least, least-same, lowered, none-sound, sound-lower, at-most-still, at-most-new, of-all}
+use Rattle.rules.proofs.Lowest.{atMost, Sound, Least, least-found, lowered, none-sound, sound-lower, at-most-still, at-most-new}
 
 -- a range that may not be met, held over a span that meets s
 abbrev pub met : (ℕ → Bool) → Span → ℕ → History → ℕ → Bool
@@ -85,4 +85,5 @@ module _ {P : ℕ → Bool} {node : ℕ} {log : List ℕ} {ended i : ℕ} {o : O
 
 pub walked-lowest : (p : ℕ → Bool) (s : Span) (node : ℕ) (log : List ℕ) (n : ℕ) {ended i : ℕ} {o : Option ℕ}
     → Walked (met p s node (hist log n)) node log ended i o → i ≤ ended → o ≡ lowestMeeting p s node (hist log n)
-walked-lowest p s node log n {o = o} w l = least-same o (lowestMeeting p s node (hist log n)) (walked-end w l) (of-all (lowestMeeting p s node (hist log n)) (lowestMeeting-right p s node (hist log n)))
+walked-lowest p s node log n {o = o} w l =
+    least-found o (lowestMeeting p s node (hist log n)) (walked-end w l) (lowestMeeting-right p s node (hist log n))

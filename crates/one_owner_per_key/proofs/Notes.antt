@@ -6,18 +6,17 @@ use mathlib.Core.Logic.{_⊎_, inl, inr}
 use mathlib.Core.Option.{none, some}
 use Prim.Native.Nat.{ℕ, _+_, _*_, _≤_, _<_}
 use native.Mathlib.Omega.{arith}
-use native.Mathlib.Nat.{mod-lt, div-lt-iff-lt-mul}
 use lib.ListN.{length, getD}
 use Rattle.record.specs.declared.named.NodeId.{NodeId}
 use Rattle.record.specs.declared.named.Node.the-variants.{Marked, Missing}
 use Rattle.record.specs.Records.{TraceRecord}
 use Rattle.rules.specs.History.{History}
-use Rattle.history.specs.Buckets.{bucketBy, bucketByTwo, fold, mix, bucket}
+use Rattle.history.specs.Buckets.{bucketBy, bucketByTwo}
 use Rattle.history.specs.Columns.{Chained, Put, Entered}
-use Rattle.history.proofs.Mixing.{share}
 use Rattle.history.proofs.Cells.{Zeros, column-clear, Same, same-then, column-agrees, column-put, column-none}
 use Rattle.history.proofs.Chains.{chained-clear, chained-agrees, entered, not-entered}
-use Rattle.one_owner_per_key.specs.Index.{OwnersIndexed, Noted, EnteredIf, isChained, byHold, byOwner, newlyCell, endedCell}
+use Rattle.one_owner_per_key.specs.Columns.{OwnersIndexed, OwnersNoted, EnteredIf, isChained, byHold, byOwner, newlyCell, endedCell}
+use Rattle.one_owner_per_key.proofs.Walks.{two-below}
 
 -- ---- no record
 
@@ -49,7 +48,7 @@ module _ (cap : ℕ) (h : History) (x : TraceRecord) (m : x .node ≡ Missing) w
   unfolding endedCell
   no-ended = rw m
 
-  pub noted-unmarked : (work : List ℕ) → Noted cap h x work work
+  pub noted-unmarked : (work : List ℕ) → OwnersNoted cap h x work work
   noted-unmarked work = record {
     len = refl;
     below = λ j l. refl;
@@ -99,10 +98,6 @@ same-above l k = record { word = λ j m. k .outside _ (inr (omega arith)) }
 -- ---- a marked record
 
 -- the share of a mixed number
-bucket-below : (cap a : ℕ) → 0 < cap → bucket cap (mix a) < cap
-unfolding bucket
-bucket-below cap a l = div-lt-iff-lt-mul {k = 4294967296} (omega arith) .1 (share cap (mix a) l (mod-lt (fold a * 2654435769) (omega arith)))
-
 module _ (cap : ℕ) (h : History) (x : TraceRecord) (n : NodeId) (m : x .node ≡ Marked n) where
   hold-in : isChained x ≡ true → byHold cap x h ≡ some (bucketByTwo cap (n .0) (x .a))
   unfolding byHold
@@ -119,7 +114,7 @@ module _ (cap : ℕ) (h : History) (x : TraceRecord) (n : NodeId) (m : x .node �
   hold-entered : (t : Bool) (count : ℕ) {work work′ : List ℕ} → isChained x ≡ t → length h ≡ count → count < cap
       → EnteredIf t work work′ (16 * cap) (17 * cap) count (bucketByTwo cap (n .0) (x .a))
       → Chained (byHold cap) (16 * cap) (17 * cap) cap h work → Chained (byHold cap) (16 * cap) (17 * cap) cap (x ∷ h) work′
-  hold-entered true count e len l p c = entered len l (bucket-below cap (mix (n .0) + fold (x .a)) (omega arith)) (omega arith) (hold-in e) p c
+  hold-entered true count e len l p c = entered len l (two-below cap (n .0) (x .a) (omega arith)) (omega arith) (hold-in e) p c
   hold-entered false count e len l p c = not-entered (hold-out e) (rw p c)
 
   pub noted-marked : {count b v w : ℕ} {work work₁ work₂ work₃ work′ : List ℕ} → length h ≡ count → count < cap
@@ -127,17 +122,22 @@ module _ (cap : ℕ) (h : History) (x : TraceRecord) (n : NodeId) (m : x .node �
       → (b ≡ bucketBy cap (n .0)) × (b < cap) → Entered work₁ work₂ (18 * cap) (19 * cap) count b
       → Put work₂ work₃ (20 * cap + count) v → Put work₃ work′ (21 * cap + count) w
       → (OwnersIndexed cap h work → x .node ≡ Marked n → (v ≡ newlyCell x h) × (w ≡ endedCell x h))
-      → Noted cap h x work work′
+      → OwnersNoted cap h x work work′
   noted-marked {count} {b} {v} {w} {work} {work₁} {work₂} {work₃} {work′} len l p0 bb p1 p2 p3 cells =
-      let d = bucket-below cap (mix (n .0) + fold (x .a)) (omega arith) in
-      let k0 : Kept (16 * cap) (18 * cap) work work₁ = kept-if (isChained x) (16 * cap) (17 * cap) count (bucketByTwo cap (n .0) (x .a)) (omega arith) (omega arith) (omega arith) p0 in
+      let d = two-below cap (n .0) (x .a) (omega arith) in
+      let k0 : Kept (16 * cap) (18 * cap) work work₁ =
+      kept-if (isChained x) (16 * cap) (17 * cap) count (bucketByTwo cap (n .0) (x .a)) (omega arith) (omega arith) (omega arith) p0 in
       let k1 : Kept (18 * cap) (20 * cap) work₁ work₂ = kept-entered (omega arith) (omega arith) (omega arith) p1 in
       let k2 : Kept (20 * cap) (21 * cap) work₂ work₃ = kept-put (omega arith) (omega arith) p2 in
       let k3 : Kept (21 * cap) (22 * cap) work₃ work′ = kept-put (omega arith) (omega arith) p3 in
       record {
         len = k3 .len ∙ k2 .len ∙ k1 .len ∙ k0 .len;
-        below = λ j u. k3 .outside j (inl (omega arith)) ∙ k2 .outside j (inl (omega arith)) ∙ k1 .outside j (inl (omega arith)) ∙ k0 .outside j (inl (omega arith));
-        above = λ j u. k3 .outside j (inr (omega arith)) ∙ k2 .outside j (inr (omega arith)) ∙ k1 .outside j (inr (omega arith)) ∙ k0 .outside j (inr (omega arith));
+        below =
+            λ j u. k3 .outside j (inl (omega arith)) ∙ k2 .outside j (inl (omega arith)) ∙ k1 .outside j (inl (omega arith))
+            ∙ k0 .outside j (inl (omega arith));
+        above =
+            λ j u. k3 .outside j (inr (omega arith)) ∙ k2 .outside j (inr (omega arith)) ∙ k1 .outside j (inr (omega arith))
+            ∙ k0 .outside j (inr (omega arith));
         indexed = λ ix. record {
           held =
               chained-agrees
@@ -152,10 +152,12 @@ module _ (cap : ℕ) (h : History) (x : TraceRecord) (n : NodeId) (m : x .node �
               (chained-agrees (same-above (omega arith) k0) (same-above (omega arith) k0) (ix .nodes)));
           newly =
               column-agrees (same-below (omega arith) k3)
-              (column-put newlyCell h x (column-agrees (same-then (same-above (omega arith) k0) (same-above (omega arith) k1)) (ix .newly)) len refl (cells ix m .0) p2);
+              (column-put newlyCell h x (column-agrees (same-then (same-above (omega arith) k0) (same-above (omega arith) k1)) (ix .newly)) len refl
+              (cells ix m .0) p2);
           ended =
               column-put endedCell h x
-              (column-agrees (same-then (same-above (omega arith) k0) (same-then (same-above (omega arith) k1) (same-above (omega arith) k2))) (ix .ended)) len refl
+              (column-agrees (same-then (same-above (omega arith) k0) (same-then (same-above (omega arith) k1) (same-above (omega arith) k2)))
+              (ix .ended)) len refl
               (cells ix m .1) p3;
         };
       }

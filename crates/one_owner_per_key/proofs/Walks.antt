@@ -1,30 +1,32 @@
 -- Laws of the walks along the two chains: each comes to the latest of the first top records that passes its test.
-use mathlib.Core.Path.{_≡_, refl, sym, _∙_}
-use mathlib.Core.Bool.{Bool, true, false, cond, _&&_, _||_}
+use mathlib.Core.Path.{_≡_, refl, sym, ap, _∙_}
+use mathlib.Core.Bool.{Bool, true, false, _&&_, _||_, or-true}
 use mathlib.Core.List.{List}
 use mathlib.Core.Logic.{inl, inr}
 use mathlib.Core.Option.{some}
-use Prim.Native.Nat.{ℕ, suc, _+_, _-_, _≤_, _<_}
+use Prim.Native.Nat.{ℕ, suc, _+_, _-_, _*_, _≤_, _<_}
 use native.Mathlib.Omega.{arith}
+use native.Mathlib.Nat.{mod-lt, div-lt-iff-lt-mul}
 use lib.ListN.{getD}
 use lib.Dec.{eqb, leb}
-use native.Mathlib.Decide.{decLt, ℕ-discrete}
-use borrow.Author.Tests.{ne-eqb, eq-eqb, le-leb, leb-true, eqb-true}
-use Rattle.record.specs.declared.named.ApplyEffect.the-variants.{Applied, OutOfSpan, Frozen, Took, Aborted, Refused, None}
-use Rattle.record.specs.Named.{effectOf, effectNumber}
+use native.Mathlib.Decide.{decLt}
+use borrow.Author.Tests.{le-leb, leb-true, eqb-true}
+use Rattle.record.specs.declared.named.ApplyEffect.the-variants.{Took}
 use Rattle.record.specs.Records.{TraceRecord}
 use Rattle.rules.specs.GenerationsRise.{hasEffect}
 use Rattle.rules.specs.History.{History, Tells, isKind, isBy, when}
 use Rattle.rules.specs.OneOwnerPerKey.{isHolding}
 use Rattle.history.specs.Logs.{recordAt, hist}
 use Rattle.history.specs.Columns.{Chained, clamp}
+use Rattle.history.proofs.Mixing.{share}
 use Rattle.history.proofs.Chains.{In, Stands, stands-first, stands-next}
 use Rattle.history.proofs.Walks.{look-end, upTo, up-to-below, up-to-above, up-to-outside}
 use Rattle.one_owner_per_key.specs.Numbers.{latestNumber, saysHold}
-use Rattle.history.specs.Buckets.{bucketBy, bucketByTwo}
-use Rattle.one_owner_per_key.specs.Index.{isChained, holdBucket, nodeOf, byHold, byOwner}
-use Rattle.rules.proofs.Booleans.{never, decide, and-left, and-right}
-use Rattle.one_owner_per_key.proofs.Marks.{or-all, by-marked}
+use Rattle.history.specs.Buckets.{fold, mix, bucket, bucketBy, bucketByTwo}
+use Rattle.one_owner_per_key.specs.Columns.{isChained, holdBucket, nodeOf, byHold, byOwner}
+use Rattle.record.proofs.Booleans.{never, decide, and-left, and-right, or-right}
+use Rattle.record.proofs.Names.{took-code}
+use Rattle.rules.proofs.Marks.{by-marked}
 use Rattle.one_owner_per_key.proofs.Latest.{passesAt, number-none, at-miss, less-hit, less-miss}
 
 -- a walk along the chain of b for the latest of the first top records that passes t stands before i
@@ -73,6 +75,14 @@ module _ {t : TraceRecord → History → Bool} {f : Tells ℕ} {b : ℕ} (s : W
 
 -- ---- the two chains
 
+-- a bucket is below the capacity
+pub bucket-below : (cap a : ℕ) → 0 < cap → bucket cap (mix a) < cap
+unfolding bucket
+bucket-below cap a l = div-lt-iff-lt-mul {k = 4294967296} (omega arith) .1 (share cap (mix a) l (mod-lt (fold a * 2654435769) (omega arith)))
+
+pub two-below : (cap a b : ℕ) → 0 < cap → bucketByTwo cap a b < cap
+two-below cap a b l = bucket-below cap (mix a + fold b) l
+
 pub by-node : (cap node : ℕ) → Within (λ x _. isBy node x) (byOwner cap) (bucketBy cap node)
 unfolding byOwner
 by-node cap node = record {
@@ -106,27 +116,17 @@ by-hold cap node range = record {
 
 -- ---- for the right half's clause: what it looks for is chained
 
-pub split-chained : (x : TraceRecord) → isKind 7 x ≡ true → isChained x ≡ true
-split-chained x e = rw (e, or-all)
+module _ (x : TraceRecord) where
+  pub descriptor-chained : isKind 2 x ≡ true → isChained x ≡ true
+  descriptor-chained e = rw (e, or-true)
 
-not-took : (b1 b2 b3 b5 b6 : Bool)
-    → eqb (effectNumber (cond b1 Applied (cond b2 OutOfSpan (cond b3 Frozen (cond b5 Aborted (cond b6 Refused None)))))) 4 ≡ false
-not-took true b2 b3 b5 b6 = refl
-not-took false true b3 b5 b6 = refl
-not-took false false true b5 b6 = refl
-not-took false false false true b6 = refl
-not-took false false false false true = refl
-not-took false false false false false = refl
+  pub split-chained : isKind 7 x ≡ true → isChained x ≡ true
+  split-chained e = rw (e, or-true)
 
-took-code : (n : ℕ) → eqb (effectNumber (effectOf n)) 4 ≡ true → n ≡ 4
-took-code n e =
-    elim (ℕ-discrete n 4) [
-      | yes q ↦ q
-      | no q ↦ never e (rw (ne-eqb n 4 q) (not-took (eqb n 1) (eqb n 2) (eqb n 3) (eqb n 5) (eqb n 6)))
-    ]
+  pub removed-chained : isKind 9 x ≡ true → isChained x ≡ true
+  removed-chained e = rw (e, or-true)
 
-pub took-chained : (x : TraceRecord) → hasEffect Took x ≡ true → isChained x ≡ true
-took-chained x e =
-    let p : isKind 3 x ≡ true = and-left (isKind 3 x) (eqb (effectNumber (effectOf (x .code))) 4) e in
-    let q : x .code ≡ 4 = took-code (x .code) (and-right (isKind 3 x) (eqb (effectNumber (effectOf (x .code))) 4) e) in
-    rw (p, eq-eqb (x .code) 4 q, or-all)
+  pub took-chained : hasEffect Took x ≡ true → isChained x ≡ true
+  took-chained t =
+      or-right (isKind 1 x || isKind 2 x || isKind 7 x || isKind 9 x) (isKind 3 x && eqb (x .code) 4)
+      (ap (λ (u : Bool). isKind 3 x && u) (sym (took-code (x .code))) ∙ t)

@@ -1,12 +1,10 @@
 -- What the enums of this crate say, and the ranges that a record's span may not meet.
-use mathlib.Core.Bool.{Bool, true, cond, not}
+use mathlib.Core.Bool.{Bool, true, not}
 use mathlib.Core.List.{List}
 use mathlib.Core.Option.{Option, none, some}
 use Prim.Native.Nat.{ℕ}
 use lib.Dec.{eqb, ltb}
 use Rattle.record.specs.Records.{Span}
-use Rattle.rules.specs.declared.Found.{Found}
-use Rattle.rules.specs.declared.Found.the-variants.{At, Nothing}
 use Rattle.rules.specs.OneOwnerPerKey.{isNamed}
 use Rattle.one_owner_per_key.specs.declared.group.Group.{Group}
 use Rattle.one_owner_per_key.specs.declared.group.Group.the-variants.{Named, Unnamed}
@@ -14,10 +12,6 @@ use Rattle.one_owner_per_key.specs.declared.meeting.Meeting.{Meeting}
 use Rattle.one_owner_per_key.specs.declared.meeting.Meeting.the-variants.{Range, Apart}
 use Rattle.one_owner_per_key.specs.declared.meeting.Others.{Others}
 use Rattle.one_owner_per_key.specs.declared.meeting.Others.the-variants.{Than, NotNamed}
-
--- the record with a number, nothing for 0
-abbrev pub foundAt : ℕ → Found
-foundAt n = cond (eqb n 0) Nothing (At n)
 
 -- the group that a start names
 abbrev pub groupIn : Group → Option ℕ

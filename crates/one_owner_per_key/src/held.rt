@@ -1,45 +1,26 @@
 // What a node holds: the latest record of kinds 1, 2 and 9 of the node and the range, against the node's latest crash
 // or refusal. Look-backs are as of the first `top` of the records taken.
 use crate::cells::end_by;
-use crate::place::HOLD_HEADS;
-use crate::place::HOLD_LINKS;
-use crate::place::NODE_HEADS;
-use crate::place::NODE_LINKS;
-use history::bucket::bucket_by;
-use history::bucket::bucket_by_two;
-use history::chain::link;
+use crate::cells::hold_below;
+use crate::cells::hold_top;
+use crate::cells::node_below;
+use crate::cells::node_top;
 use history::log::record_at;
 use record::field;
 use record::named::Node;
 use record::named::NodeId;
 use rules::Found;
 ghost use mathlib.Core.Path.{_≡_};
-ghost use Prim.Native.Nat.{_*_, _≤_, _<_};
+ghost use Prim.Native.Nat.{_≤_};
 ghost use lib.ListN.{length};
 ghost use Rattle.record.specs.Records.{decode};
 ghost use Rattle.rules.specs.History.{isBy};
 ghost use Rattle.rules.specs.OneOwnerPerKey.{isHolding};
 ghost use Rattle.history.specs.Bounds.{Bounds};
-ghost use Rattle.history.specs.Buckets.{bucketBy, bucketByTwo};
 ghost use Rattle.history.specs.Logs.{hist};
 ghost use Rattle.one_owner_per_key.specs.Numbers.{latestBy, latestEnd, saysHold, latestHold, holdNumber};
-ghost use Rattle.one_owner_per_key.specs.Index.{OwnersIndexed};
-ghost use Rattle.one_owner_per_key.specs.Answers.{foundAt};
-
-// The bucket of a node, and that of a node and a range.
-pub fn node_bucket(cap: usize, node: NodeId) -> usize
-    requires { ⌜ (0 < cap) × (cap ≤ 4096) ⌝ }
-    ensures { λ r. ⌜ (r ≡ bucketBy cap (node .0)) × (r < cap) ⌝ }
-{
-    bucket_by(cap, node.0 as u64)
-}
-
-pub fn hold_bucket(cap: usize, node: NodeId, range: u64) -> usize
-    requires { ⌜ (0 < cap) × (cap ≤ 4096) ⌝ }
-    ensures { λ r. ⌜ (r ≡ bucketByTwo cap (node .0) range) × (r < cap) ⌝ }
-{
-    bucket_by_two(cap, node.0 as u64, range)
-}
+ghost use Rattle.one_owner_per_key.specs.Columns.{OwnersIndexed};
+ghost use Rattle.rules.specs.Answers.{foundAt};
 
 // Whether a record is marked with a node.
 pub fn is_by(rec: &[u8], node: NodeId) -> bool
@@ -83,13 +64,13 @@ pub fn latest_of(
     ensures within { λ r. ⌜ r ≤ top ⌝ }
     ensures latest { λ r. ⌜ (OwnersIndexed cap (hist (now (log .entry)) count) (now (work .entry)) → r ≡ latestBy (node .0) (hist (now (log .entry)) top)) ⌝ }
 {
-    let mut i = link(work, NODE_HEADS * cap + node_bucket(cap, node), count);
+    let mut i = node_top(work, cap, count, node);
     while 0 < i {
         let at = i - 1;
         if (i <= top) & is_by(record_at(log, at), node) {
             return i;
         }
-        i = link(work, NODE_LINKS * cap + at, at);
+        i = node_below(work, cap, at);
     }
     0
 }
@@ -108,17 +89,13 @@ fn hold_of(
     ensures within { λ r. ⌜ r ≤ top ⌝ }
     ensures latest { λ r. ⌜ (OwnersIndexed cap (hist (now (log .entry)) count) (now (work .entry)) → r ≡ latestHold (node .0) range (hist (now (log .entry)) top)) ⌝ }
 {
-    let mut i = link(
-        work,
-        HOLD_HEADS * cap + hold_bucket(cap, node, range),
-        count,
-    );
+    let mut i = hold_top(work, cap, count, node, range);
     while 0 < i {
         let at = i - 1;
         if (i <= top) & says_hold(record_at(log, at), node, range) {
             return i;
         }
-        i = link(work, HOLD_LINKS * cap + at, at);
+        i = hold_below(work, cap, at);
     }
     0
 }

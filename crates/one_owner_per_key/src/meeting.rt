@@ -24,7 +24,7 @@ ghost use Rattle.rules.specs.OneOwnerPerKey as rule;
 ghost use Rattle.history.specs.Bounds.{Bounds};
 ghost use Rattle.history.specs.Logs.{hist};
 ghost use Rattle.one_owner_per_key.specs.Numbers.{latestEnd};
-ghost use Rattle.one_owner_per_key.specs.Index.{OwnersIndexed};
+ghost use Rattle.one_owner_per_key.specs.Columns.{OwnersIndexed};
 ghost use Rattle.one_owner_per_key.specs.Answers.{rangeIn, isBelow};
 ghost use Rattle.one_owner_per_key.specs.Answers as answer;
 

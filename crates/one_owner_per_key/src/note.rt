@@ -1,19 +1,19 @@
 // What a record leaves in this crate's columns: its place in the two chains, and its two cells.
 use crate::cells::end_by;
+use crate::cells::hold_bucket;
 use crate::cells::latest_newly;
+use crate::cells::node_bucket;
 use crate::held::held_after;
-use crate::held::hold_bucket;
 use crate::held::is_holding;
 use crate::held::latest_of;
-use crate::held::node_bucket;
-use crate::place::ENDED_AT;
-use crate::place::HOLD_HEADS;
-use crate::place::HOLD_LINKS;
-use crate::place::NEWLY_HELD;
-use crate::place::NODE_HEADS;
-use crate::place::NODE_LINKS;
 use history::chain::enter;
 use history::chain::put;
+use history::place::ENDED_AT;
+use history::place::HOLD_HEADS;
+use history::place::HOLD_LINKS;
+use history::place::NEWLY_HELD;
+use history::place::NODE_HEADS;
+use history::place::NODE_LINKS;
 use record::field;
 use record::named::Node;
 use record::named::NodeId;
@@ -27,8 +27,9 @@ ghost use Rattle.rules.specs.OneOwnerPerKey.{isHolding, hasHold};
 ghost use Rattle.history.specs.Bounds.{Bounds};
 ghost use Rattle.history.specs.Buckets.{bucketByTwo};
 ghost use Rattle.history.specs.Logs.{hist};
+ghost use Rattle.history.specs.Places.{holdHeads, holdLinks};
 ghost use Rattle.one_owner_per_key.specs.Numbers.{latestEnd};
-ghost use Rattle.one_owner_per_key.specs.Index.{OwnersIndexed, Noted, isChained, bit, newlyCell, endedCell, EnteredIf};
+ghost use Rattle.one_owner_per_key.specs.Columns.{OwnersIndexed, OwnersNoted, isChained, bit, newlyCell, endedCell, EnteredIf};
 
 // What is written of a record: whether it newly holds its range, with the one before it that did; its node's latest end.
 pub struct Cells {
@@ -105,7 +106,7 @@ fn cells_of(log: &[u8], work: &[u64], count: usize, cap: usize, rec: &[u8], node
 // Enters a record into the chain of its node and range, where it is one of those chained.
 fn enter_hold(work: &mut [u64], count: usize, cap: usize, rec: &[u8], node: NodeId)
     requires { ⌜ (32 * cap ≤ length (now work)) × ((count < cap) × ((cap ≤ 4096) × (length (now rec) ≡ 368))) ⌝ }
-    ensures { λ _. ⌜ EnteredIf (isChained (decode (now (rec .entry)))) (now (work .entry)) (now (work .exit)) (16 * cap) (17 * cap) count (bucketByTwo cap (node .0) (decode (now (rec .entry)) .a)) ⌝ }
+    ensures { λ _. ⌜ EnteredIf (isChained (decode (now (rec .entry)))) (now (work .entry)) (now (work .exit)) (holdHeads * cap) (holdLinks * cap) count (bucketByTwo cap (node .0) (decode (now (rec .entry)) .a)) ⌝ }
 {
     if !is_chained(rec) {
         return;
@@ -122,7 +123,7 @@ fn enter_hold(work: &mut [u64], count: usize, cap: usize, rec: &[u8], node: Node
 // Notes a record as the next: before or after it is written to the log. One without a node leaves everything as it is.
 pub fn note(log: &[u8], work: &mut [u64], count: usize, cap: usize, rec: &[u8])
     requires { ⌜ Bounds (now log) (now work) count cap × ((count < cap) × (length (now rec) ≡ 368)) ⌝ }
-    ensures { λ _. ⌜ Noted cap (hist (now (log .entry)) count) (decode (now (rec .entry))) (now (work .entry)) (now (work .exit)) ⌝ }
+    ensures { λ _. ⌜ OwnersNoted cap (hist (now (log .entry)) count) (decode (now (rec .entry))) (now (work .entry)) (now (work .exit)) ⌝ }
 {
     let marked = field::node(rec);
     let Node::Marked(node) = marked else {

@@ -8,7 +8,7 @@ use native.Mathlib.Omega.{arith}
 use lib.ListN.{length}
 use lib.Dec.{eqb}
 use borrow.Author.Tests.{eq-eqb, ne-eqb}
-use Rattle.record.proofs.Keys.{never}
+use Rattle.record.proofs.Booleans.{never}
 use Rattle.history.specs.Logs.{hist}
 use Rattle.ids_unique.specs.Answers.{tooShort}
 use Rattle.judge.specs.declared.lookup.Looked.{Looked}

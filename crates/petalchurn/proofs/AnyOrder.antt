@@ -9,9 +9,9 @@ use Rattle.rules.specs.Reports.{passed}
 use Rattle.rules.specs.AnyOrder.{grantsOf, idsPlace, Alike}
 use Rattle.rules.proofs.AnyOrder.{ids-passes}
 use Rattle.judge.specs.declared.lookup.Question.the-variants.{HoldersOf}
-use Rattle.judge.specs.Runs.{reportAt}
-use Rattle.judge.specs.AnyOrder.{OneHolder}
-use Rattle.judge.proofs.AnyOrder.{one-held, ids-report, demands-any-order}
+use Rattle.demands.specs.Runs.{reportAt}
+use Rattle.demands.specs.AnyOrder.{OneHolder}
+use Rattle.demands.proofs.AnyOrder.{one-held, ids-report, demands-any-order}
 use Rattle.petalchurn.specs.declared.answer.Answer.{Answer}
 use Rattle.petalchurn.specs.Lookups.{LooksWords}
 use Rattle.petalchurn.specs.Runs.{Buffers, stateAt, LibraryDemands}

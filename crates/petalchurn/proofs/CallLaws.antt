@@ -9,15 +9,16 @@ use lib.ListN.{length, getD, drop, set}
 use lib.Seq.{sets}
 use lib.Dec.{eqb}
 use Rattle.record.specs.Records.{decode}
-use Rattle.record.proofs.Keys.{never}
+use Rattle.record.proofs.Booleans.{never}
 use Rattle.rules.specs.declared.Opening.{Opening}
 use Rattle.rules.specs.declared.Report.{Report}
 use Rattle.rules.specs.Reports.{passed}
 use Rattle.rules.specs.Checks.{checkCount}
 use Rattle.rows.specs.Rows.{rowsSize, reportWords, rowsOf}
-use Rattle.rows.proofs.Rows.{sets-front, length-rows}
+use Rattle.rows.proofs.Rows.{length-rows}
+use Rattle.record.proofs.Lists.{sets-front}
 use Rattle.events.specs.Numbers.{eventIn}
-use Rattle.intake.specs.Refusals.{fitsBy}
+use Rattle.decision.specs.Refusals.{fitsBy}
 use Rattle.intake.specs.Words.{Indexed}
 use Rattle.intake.specs.Takes.{TakesIn}
 use Rattle.judge.specs.declared.answer.Reported.{Reported}
@@ -27,7 +28,7 @@ use Rattle.judge.specs.declared.trace.Traced.{Traced}
 use Rattle.judge.specs.States.{refusalNumber, pushRefusal}
 use Rattle.judge.specs.Openings.{Opens}
 use Rattle.judge.specs.Answers.{reportNo, ReportedBy}
-use Rattle.judge.specs.Runs.{Pushed, stateOf}
+use Rattle.judge.specs.Pushes.{Pushed, stateOf}
 use Rattle.judge.specs.Traces.{judgeBy, TracedBy}
 use Rattle.judge.proofs.Pushes.{RowsOf, push-number, push-taken, push-refused, rows-own}
 use Rattle.state_words.specs.StateWords.{stateSize, stateWords, judgeIn, isState, stateIn}
@@ -36,13 +37,6 @@ use Rattle.state_words.proofs.States.{state-facts, fit-of, some-state, none-sta
 use Rattle.petalchurn.specs.Calls.{reportSize, traceSize, OpensWords, PushesWords, ReportsWords, traceWords, TracesWords}
 
 -- ---- the sizes of what is written
-
-pub report-size : (r : Report) → length (reportWords r) ≡ reportSize
-report-size r = refl
-
-pub trace-size : (t : Traced) → length (t .judge .reports) ≡ checkCount → length (traceWords t) ≡ traceSize
-unfolding traceWords
-trace-size t e = let n = length-rows (t .judge .reports) ∙ ap (λ (k : ℕ). 7 * k) e in omega arith
 
 -- ---- opening
 

@@ -10,7 +10,7 @@ use lib.Dec.{eqb}
 use Rattle.rules.specs.declared.Opening.{Opening}
 use Rattle.judge.specs.declared.state.Judge.{Judge}
 use Rattle.judge.specs.Openings.{Fits}
-use Rattle.judge.specs.Calls.{takenOf}
+use Rattle.demands.specs.Calls.{takenOf}
 use Rattle.tally.specs.declared.Entered.{Entered}
 use Rattle.tally.specs.Entries.{refusalNumber, entryRefusal, leftBy, EntersBy}
 use Rattle.tally.specs.Campaigns as Tally-campaigns

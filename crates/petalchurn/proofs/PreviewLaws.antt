@@ -14,18 +14,18 @@ use Rattle.record.specs.Numbers.{part}
 use Rattle.rules.specs.declared.Report.{Report}
 use Rattle.rules.specs.Reports.{passed}
 use Rattle.rules.specs.Checks.{checkCount}
-use Rattle.rules.proofs.Booleans.{never, and-left, and-right}
+use Rattle.record.proofs.Booleans.{never, and-left, and-right}
 use Rattle.rows.specs.Rows.{rowsSize, rowsOf, reportsFrom, reportsIn}
 use Rattle.rows.proofs.ReadBack.{rows-read}
 use Rattle.intake.specs.Words.{Indexed}
 use Rattle.intake.specs.Takes.{PreviewsIn}
-use Rattle.intake.proofs.Decisions.{room-of}
+use Rattle.decision.proofs.Decisions.{room-of}
 use Rattle.judge.specs.declared.state.Judge.{Judge}
 use Rattle.judge.specs.declared.ticket.Ticket.{Ticket}
 use Rattle.judge.specs.Tickets.{ticketOf, noTicket}
 use Rattle.judge.specs.States.{suits, pushRefusal, commitRefusal, takes}
 use Rattle.judge.specs.Lookups.{lends}
-use Rattle.judge.specs.Runs.{Takes, stateOf}
+use Rattle.judge.specs.Pushes.{Takes, stateOf}
 use Rattle.judge.specs.Traces.{judgeBy}
 use Rattle.judge.specs.Previews.{refusedReports, ticketFor, Previews}
 use Rattle.judge.proofs.Pushes.{RowsOf, rows-own}

@@ -15,9 +15,9 @@ use Rattle.rules.specs.Reports.{passed}
 use Rattle.rules.specs.Checks.{checkCount, reportsOf}
 use Rattle.rows.specs.Rows.{rowsSize, reportWords, rowsOf}
 use Rattle.history.specs.Logs.{hist}
-use Rattle.intake.specs.Refusals.{fitsBy, refusalAfter}
+use Rattle.decision.specs.Refusals.{fitsBy, refusalAfter}
 use Rattle.intake.specs.Words.{Indexed}
-use Rattle.intake.proofs.Suiting.{fits-by}
+use Rattle.decision.proofs.Suiting.{fits-by}
 use Rattle.judge.specs.declared.answer.Reported.{Reported}
 use Rattle.judge.specs.declared.lookup.Question.{Question}
 use Rattle.judge.specs.declared.state.Judge.{Judge}
@@ -26,21 +26,21 @@ use Rattle.judge.specs.declared.ticket.Ticket.{Ticket}
 use Rattle.judge.specs.Tickets.{ticketOf}
 use Rattle.judge.specs.States.{State, suits, refusalNumber}
 use Rattle.judge.specs.Openings.{Fits, freshOf}
-use Rattle.judge.specs.Calls as Judge-calls
-use Rattle.judge.specs.Calls.{Call, callRefusal, takenOf, erased}
+use Rattle.demands.specs.Calls as Judge-calls
+use Rattle.demands.specs.Calls.{Call, callRefusal, takenOf, erased}
 use Rattle.judge.specs.Lookups.{lends}
 use Rattle.judge.specs.Answers.{reportNo, ReportedBy}
-use Rattle.judge.specs.Runs as Judge-runs
-use Rattle.judge.specs.Runs.{After, Called, Run, stateOf, reportAt}
-use Rattle.judge.specs.Previews.{Shown}
-use Rattle.judge.specs.Demand2.{Demand2}
-use Rattle.judge.specs.Pieces.{soundPieces, firstRefusal}
+use Rattle.demands.specs.Runs as Judge-runs
+use Rattle.judge.specs.Pushes.{After, stateOf}
+use Rattle.demands.specs.Runs.{Called, Run, reportAt}
+use Rattle.demands.specs.Demand2.{Shown, Demand2}
+use Rattle.demands.specs.Pieces.{soundPieces, firstRefusal}
 use Rattle.judge.proofs.Suiting.{state-suiting}
 use Rattle.judge.proofs.Openings.{fresh-after}
-use Rattle.judge.proofs.Demand2.{demand2-of}
-use Rattle.judge.proofs.Demand3.{Ran, ran, refusal-is, commit-refusal-is, demand3-of}
-use Rattle.judge.proofs.Previews.{shown-after, run-erased, run-one}
-use Rattle.judge.proofs.Pieces.{whole-trace}
+use Rattle.demands.proofs.Demand2.{demand2-of}
+use Rattle.demands.proofs.Demand3.{Ran, ran, refusal-is, commit-refusal-is, demand3-of}
+use Rattle.demands.proofs.Previews.{shown-after, run-erased, run-one}
+use Rattle.demands.proofs.Pieces.{whole-trace}
 use Rattle.state_words.specs.StateWords.{stateSize, stateWords, judgeIn, stateIn}
 use Rattle.state_words.proofs.States.{fit-of, some-state, state-words}
 use Rattle.state_words.proofs.ReadBack.{state-after, state-fresh}

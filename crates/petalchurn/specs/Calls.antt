@@ -8,14 +8,14 @@ use lib.ListN.{length, drop, replicate}
 use lib.Dec.{eqb}
 use Rattle.rules.specs.declared.Opening.{Opening}
 use Rattle.rows.specs.Rows.{rowsSize, reportWords, rowsOf}
-use Rattle.intake.specs.Refusals.{fitsBy}
+use Rattle.decision.specs.Refusals.{fitsBy}
 use Rattle.intake.specs.Words.{Indexed}
 use Rattle.judge.specs.declared.state.Judge.{Judge}
 use Rattle.judge.specs.declared.trace.Traced.{Traced}
 use Rattle.judge.specs.States.{refusalNumber, pushRefusal}
 use Rattle.judge.specs.Openings.{Fits, freshOf}
 use Rattle.judge.specs.Answers.{reportNo}
-use Rattle.judge.specs.Runs.{Pushed, stateOf}
+use Rattle.judge.specs.Pushes.{Pushed, stateOf}
 use Rattle.judge.specs.Traces.{TracedBy}
 use Rattle.state_words.specs.StateWords.{stateSize, stateWords, stateIn}
 

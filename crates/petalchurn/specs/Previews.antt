@@ -16,7 +16,7 @@ use Rattle.judge.specs.declared.ticket.Ticket.{Ticket}
 use Rattle.judge.specs.Tickets.{ticketOf, noTicket}
 use Rattle.judge.specs.States.{commitRefusal}
 use Rattle.judge.specs.Lookups.{lends}
-use Rattle.judge.specs.Runs.{Committed, stateOf}
+use Rattle.judge.specs.Pushes.{Committed, stateOf}
 use Rattle.judge.specs.Previews.{ticketFor, Previews}
 use Rattle.state_words.specs.StateWords.{stateWords, stateIn}
 use Rattle.ticket_bytes.specs.TicketBytes.{ticketSize, ticketBytes, hasCount, countIn, recordIn}

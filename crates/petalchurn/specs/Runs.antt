@@ -12,17 +12,18 @@ use Rattle.rules.specs.Reports.{passed}
 use Rattle.rules.specs.Checks.{checkCount, reportsOf}
 use Rattle.rows.specs.Rows.{rowsSize, reportWords, rowsOf}
 use Rattle.intake.specs.Words.{Indexed}
-use Rattle.intake.specs.Refusals.{refusalAfter}
+use Rattle.decision.specs.Refusals.{refusalAfter}
 use Rattle.judge.specs.declared.lookup.Question.{Question}
 use Rattle.judge.specs.declared.state.Judge.{Judge}
 use Rattle.judge.specs.declared.ticket.Ticket.{Ticket}
 use Rattle.judge.specs.Tickets.{ticketOf, noTicket}
 use Rattle.judge.specs.States.{State}
-use Rattle.judge.specs.Calls as Judge-calls
-use Rattle.judge.specs.Calls.{Call, callRefusal, afterCall}
-use Rattle.judge.specs.Runs.{stateOf, Demand3}
-use Rattle.judge.specs.Demand2.{Demand2}
-use Rattle.judge.specs.Pieces.{soundPieces, firstRefusal, recordsTaken}
+use Rattle.demands.specs.Calls as Judge-calls
+use Rattle.demands.specs.Calls.{Call, callRefusal, afterCall}
+use Rattle.judge.specs.Pushes.{stateOf}
+use Rattle.demands.specs.Runs.{Demand3}
+use Rattle.demands.specs.Demand2.{Demand2}
+use Rattle.demands.specs.Pieces.{soundPieces, firstRefusal, recordsTaken}
 use Rattle.state_words.specs.StateWords.{judgeIn, stateIn}
 use Rattle.ticket_bytes.specs.TicketBytes.{ticketSize}
 use Rattle.petalchurn.specs.declared.answer.Answer.{Answer}

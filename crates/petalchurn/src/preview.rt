@@ -1,7 +1,7 @@
 // Previewing a record, and committing it by its ticket.
 use crate::calls::take_into;
+use decision::suits;
 use history::chain::clear;
-use intake::decide::suits;
 use intake::preview::preview;
 use rows::ROWS;
 use state_words::CAPACITY_WORD;

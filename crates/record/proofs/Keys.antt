@@ -1,6 +1,6 @@
 -- The laws of keys: the key in its place, equality of lists, and the order of keys, which is irreflexive, transitive and total. Assumes nothing.
 use mathlib.Core.Path.{_≡_, refl, sym, ap, _∙_}
-use mathlib.Core.Bool.{Bool, true, false, true≢false, _&&_}
+use mathlib.Core.Bool.{Bool, true, false, _&&_}
 use mathlib.Core.List.{List, [], _∷_}
 use mathlib.Core.Logic.{_⊎_, inl, inr, ⊎-elim}
 use Prim.Native.Nat.{ℕ, zero, suc, _+_, _-_, _≤_, _<_, min}
@@ -14,14 +14,9 @@ use borrow.Author.Tests.{lt-ltb, le-ltb, le-leb, lt-leb, eq-eqb, eqb-true, eqb-f
 use Rattle.record.specs.Limits.{keySize, keyLimit}
 use Rattle.record.specs.Numbers.{number64}
 use Rattle.record.specs.Keys.{Key, keyIn, keyLtb, listEqb, Lt, Le}
-use Rattle.record.proofs.Numbers.{Bytes, drop-step, number-same}
-
-pub decide : (b : Bool) → (b ≡ true) ⊎ (b ≡ false)
-decide true = inl refl
-decide false = inr refl
-
-pub never : {A : Type 0} {b : Bool} → b ≡ true → b ≡ false → A
-never p q = absurd (true≢false (sym p ∙ q))
+use Rattle.record.proofs.Booleans.{decide, never, and-left, and-right}
+use Rattle.record.proofs.Numbers.{Bytes, number-same}
+use Rattle.record.proofs.Lists.{drop-step}
 
 -- ---- the key in its place
 
@@ -54,19 +49,14 @@ unfolding listEqb
 listEqb-refl [] = refl
 listEqb-refl (x ∷ xs) = rw (eq-eqb x x refl) (listEqb-refl xs)
 
-both : (p q : Bool) → p && q ≡ true → (p ≡ true) × (q ≡ true)
-both true q h = (refl, h)
-both false q h = never h refl
-
 pub listEqb-same : (xs ys : List ℕ) → listEqb xs ys ≡ true → xs ≡ ys
 unfolding listEqb
 listEqb-same [] [] h = refl
 listEqb-same [] (y ∷ ys) h = never h refl
 listEqb-same (x ∷ xs) [] h = never h refl
 listEqb-same (x ∷ xs) (y ∷ ys) h =
-    let w = both (eqb x y) (listEqb xs ys) h in
-    let e : x ≡ y = eqb-true x y (w .0) in
-    let es : xs ≡ ys = listEqb-same xs ys (w .1) in
+    let e : x ≡ y = eqb-true x y (and-left (eqb x y) (listEqb xs ys) h) in
+    let es : xs ≡ ys = listEqb-same xs ys (and-right (eqb x y) (listEqb xs ys) h) in
     cc
 
 pub listEqb-equal : (xs ys : List ℕ) → xs ≡ ys → listEqb xs ys ≡ true
@@ -148,7 +138,7 @@ module _ (xs ys : List ℕ) (l : length xs ≡ keySize) (m : length ys ≡ keySi
 
 -- and then the same key
 pub places-key : (xs ys : List ℕ) (whole : Bool) → whole && listEqb xs ys ≡ true → listEqb (keyIn xs) (keyIn ys) ≡ true
-places-key xs ys whole e = listEqb-equal _ _ (ap keyIn (listEqb-same xs ys (both whole (listEqb xs ys) e .1)))
+places-key xs ys whole e = listEqb-equal _ _ (ap keyIn (listEqb-same xs ys (and-right whole (listEqb xs ys) e)))
 
 -- ---- the order of keys
 

@@ -3,16 +3,12 @@ use mathlib.Core.Path.{_≡_, refl, sym, ap, _∙_}
 use mathlib.Core.List.{List, [], _∷_, _++_}
 use Prim.Native.Nat.{ℕ, suc, _+_, _-_, _*_, _^_, _≤_, _<_}
 use native.Mathlib.Nat.{pow-succ', pow-zero, mul-assoc, add-assoc, mul-add, pow-le-pow-right, zero-add, one-mul}
-use native.Mathlib.Numerals.{add-one}
 use native.Mathlib.Omega.{arith}
 use native.Mathlib.Decide.{decLt}
 use lib.ListN.{length, getD, take, drop, length-take, length-drop, List·getD-eq-default}
-use lib.Seq.{drop-cons, take-add, drop-drop, length-take-le, getD-take, getD-drop}
+use lib.Seq.{take-add, drop-drop, length-take-le, getD-take, getD-drop}
 use Rattle.record.specs.Numbers.{part, littleEndian, number32, number64}
-
--- a list from a place on is the number there, and the list from the next place on
-pub drop-step : (l : List ℕ) (i : ℕ) → i < length l → drop i l ≡ getD l i 0 ∷ drop (i + 1) l
-drop-step l i h = rw (add-one, drop-cons l i 0)
+use Rattle.record.proofs.Lists.{drop-step}
 
 pub length-part : (a e : ℕ) (s : List ℕ) → e ≤ length s → length (part a e s) ≡ e - a
 length-part a e s h = length-take-le (e - a) (drop a s) (rw length-drop (omega arith))
@@ -77,12 +73,6 @@ pub number-below : (n p : ℕ) (s : List ℕ) → Bytes s → littleEndian (part
 number-below n p s h =
     let m : 256 ^ length (part p (p + n) s) ≤ 256 ^ n = pow-le-pow-right (omega arith) (part-short p n s) in
     omega (arith, littleEndian-below (part p (p + n) s) (bytes-part p (p + n) s h))
-
-pub number32-below : (p : ℕ) (s : List ℕ) → Bytes s → number32 p s < 2 ^ 32
-number32-below = number-below 4
-
-pub number64-below : (p : ℕ) (s : List ℕ) → Bytes s → number64 p s < 2 ^ 64
-number64-below = number-below 8
 
 pub getD-part : (a e k : ℕ) (s : List ℕ) → a ≤ k → k < e → getD (part a e s) (k - a) 0 ≡ getD s k 0
 getD-part a e k s l h =

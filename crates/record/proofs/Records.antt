@@ -43,10 +43,6 @@ voter-at i s h = numbers-at votersAt (voterCount s) i s (omega (arith, length-nu
 
 -- ---- spans
 
-pub decode-spans : (s : List ℕ) → decode s .spans ≡ spansIn s
-unfolding decode
-decode-spans s = refl
-
 pub length-spansFrom : (p n : ℕ) (s : List ℕ) → length (spansFrom p n s) ≡ n
 unfolding spansFrom
 length-spansFrom p zero s = refl

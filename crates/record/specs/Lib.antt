@@ -1,8 +1,6 @@
--- Document 01's "Records" as definitions: numbers, keys, the decoded record, the kinds and the form's refusals.
+-- Document 01's "Records" as definitions: numbers, keys and the decoded record.
 pub mod Limits
 pub mod Numbers
 pub mod Keys
 pub mod Named
 pub mod Records
-pub mod KindTable
-pub mod Form

@@ -1,5 +1,5 @@
--- The sizes and largest counts of the record form, document 01's "Records". The definitions of crate `record` name them; those of
--- the crates above spell document 01's 368.
+-- The sizes and largest counts of the record form, document 01's "Records". The definitions of crates `record` and `form` name
+-- them; those of the crates above spell document 01's 368.
 use Prim.Native.Nat.{ℕ}
 
 -- the bytes of a record, and of the place that holds one key

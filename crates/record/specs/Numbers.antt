@@ -1,7 +1,7 @@
 -- Bytes at their places, and numbers made of bytes.
 use mathlib.Core.List.{List, [], _∷_}
 use Prim.Native.Nat.{ℕ, zero, suc, _+_, _-_, _*_, _/_, _%_}
-use lib.ListN.{length, getD, take, drop}
+use lib.ListN.{getD, take, drop}
 
 -- "the stretch of the record that begins at its offset": the bytes from a up to e, as the code's `&s[a..e]` has them
 abbrev pub part : ℕ → ℕ → List ℕ → List ℕ

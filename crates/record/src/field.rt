@@ -15,7 +15,6 @@ ghost use mathlib.Core.Path.{_≡_};
 ghost use Prim.Native.Nat.{_<_, _≤_, _+_};
 ghost use lib.ListN.{length, getD};
 ghost use Rattle.record.specs.Limits.{recordSize, voterLimit, spanLimit};
-ghost use Rattle.record.specs.Keys.{keyIn};
 ghost use Rattle.record.specs.Named.{causeOf, stateOf, effectOf};
 ghost use Rattle.record.specs.Records.{decode};
 

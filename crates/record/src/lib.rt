@@ -1,8 +1,6 @@
-// The 368-byte record of a trace: its numbers and keys where they lie, its fields, and the refusals of its form.
+// The 368-byte record of a trace: its numbers and keys where they lie, and its fields.
 pub mod field;
-pub mod form;
 pub mod key;
-pub mod kind;
 pub mod limits;
 pub mod named;
 pub mod number;

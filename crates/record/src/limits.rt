@@ -1,5 +1,5 @@
 // The sizes and largest counts of the record form. The code of every crate takes them from here; contracts spell them, as document
-// 01 does, and the places of single fields stand where they are read, in `field` and `form`.
+// 01 does, and the places of single fields stand where they are read, in `field` and in crate `form`.
 pub const RECORD_SIZE: usize = 368;
 
 pub const KEY_SIZE: usize = 32;

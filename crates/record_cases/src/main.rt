@@ -1,8 +1,8 @@
 // Hand-made records: each kind's, each refusal's and each boundary's of document 01's "Records", with the refusal's number,
 // or 0 where the form is sound. The file stdout is written from the document.
+use form::form_of;
+use form::number_of;
 use libc::STDOUT_FILENO;
-use record::form::form_of;
-use record::form::number_of;
 
 fn write(text: &[u8]) {
     io::write_all(STDOUT_FILENO, text);

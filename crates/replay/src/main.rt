@@ -4,8 +4,8 @@ use libc::STDOUT_FILENO;
 use tally::Tally;
 
 mod ask;
+mod cases;
 mod compare;
-mod form;
 mod preview;
 mod read;
 mod refusal;
@@ -26,7 +26,7 @@ fn run_form() {
         os::fail(b"form.bin");
         return;
     }
-    say(b"form: ", form::all_cases(fd));
+    say(b"form: ", cases::all_cases(fd));
     libc::close(fd);
 }
 

@@ -10,7 +10,7 @@ use judge::ticket::Ticket;
 use record::limits::RECORD_SIZE;
 use rules::CHECKS;
 use rules::Report;
-ghost use Rattle.judge.specs.Runs.{PushedBy};
+ghost use Rattle.judge.specs.Pushes.{PushedBy};
 
 // A judge, and whether its calls were refused and taken as they should be.
 pub struct Taken {

@@ -1,22 +1,6 @@
 -- The laws that the proofs of this crate cite, by topic.
-pub mod Codes
-pub mod States
-pub mod Splits
-pub mod Voters
-pub mod Noting
-pub mod Notes
-pub mod Walks
-pub mod Comings
-pub mod Parts
-pub mod Arising
-pub mod Owing
 pub mod Searches
 pub mod Lacks
 pub mod Lowering
 pub mod Registering
-pub mod Applied
-pub mod Judging
-pub mod Debts
 pub mod Checks
-pub mod Openings
-pub mod Tests

@@ -1,34 +1,34 @@
 -- Laws of the lowest node that lacks a right range: a walk along the records of the parent that recorded an index meets every such node.
 use mathlib.Core.Path.{_≡_, refl, sym, ap, _∙_}
-use mathlib.Core.Bool.{Bool, true, false, cond, not, _&&_, _||_}
-use mathlib.Core.List.{List, [], _∷_}
-use mathlib.Core.Logic.{_⊎_, inl, inr}
-use mathlib.Core.Option.{Option, none, some}
-use Prim.Native.Nat.{ℕ, zero, suc, _+_, _-_, _*_, _≤_, _<_}
+use mathlib.Core.Bool.{Bool, true, not, _&&_}
+use mathlib.Core.List.{List}
+use mathlib.Core.Option.{Option, none}
+use Prim.Native.Nat.{ℕ, _+_, _-_, _≤_, _<_}
 use native.Mathlib.Omega.{arith}
 use native.Mathlib.Decide.{ℕ-discrete, decLt}
-use lib.ListN.{length, getD}
-use lib.Dec.{eqb, leb, ltb}
-use borrow.Author.Tests.{eqb-true, leb-true, ltb-true}
+use lib.ListN.{getD}
+use lib.Dec.{eqb, ltb}
+use borrow.Author.Tests.{eqb-true, ltb-true}
 use Rattle.record.specs.declared.named.Node.{Node}
 use Rattle.record.specs.declared.named.Node.the-variants.{Marked, Missing}
 use Rattle.record.specs.Records.{TraceRecord}
-use Rattle.rules.specs.History.{History, Tells, isKind, isBy, byNode, when, lower, lowestOf}
-use Rattle.rules.specs.RightHalf.{Registered, isRestated, reaches, lacks, nodesOf}
-use Rattle.rules.proofs.Booleans.{never, and-left, and-right, both}
-use Rattle.rules.proofs.Candidates.{LowestOfAll, lacking-right}
+use Rattle.rules.specs.History.{Tells, isKind, isBy, byNode}
+use Rattle.rules.specs.RightHalf.{Registered, isRestated, reaches, lacks}
+use Rattle.record.proofs.Booleans.{never, and-left, and-right}
+use Rattle.rules.proofs.Candidates.{LowestOfAll}
 use Rattle.history.specs.Logs.{recordAt, hist}
 use Rattle.history.specs.Columns.{Chained, latestIn, clamp}
 use Rattle.history.proofs.Chains.{In, clamped, link-at, latest-bound, latest-in, latest-gap}
 use Rattle.one_owner_per_key.specs.Numbers.{latestNumber}
-use Rattle.one_owner_per_key.proofs.Marks.{by-marked}
+use Rattle.rules.proofs.Marks.{by-marked}
 use Rattle.one_owner_per_key.proofs.Latest.{number-bound, number-is}
-use Rattle.one_owner_per_key.proofs.Lowest.{atMost, Sound, Least, none-sound, sound-lower, at-most-still, at-most-new}
-use Rattle.right_half.specs.declared.owed.Asked.the-variants.{Recording}
-use Rattle.right_half.specs.Numbers.{refusedNumber}
-use Rattle.right_half.specs.Index.{recordedBucket, recordsBy, byRecording}
-use Rattle.right_half.specs.Walk.{asks, reached, loweredBy}
-use Rattle.right_half.proofs.Owing.{reached-is}
+use Rattle.rules.proofs.Lowest.{least-found, atMost, Sound, none-sound, sound-lower, at-most-still, at-most-new}
+use Rattle.debts.specs.declared.owed.Asked.the-variants.{Recording}
+use Rattle.splits.specs.Numbers.{refusedNumber}
+use Rattle.splits.specs.Columns.{recordedBucket, recordsBy, byRecording}
+use Rattle.debts.specs.Walk.{asks, reached}
+use Rattle.right_half.specs.Answers.{loweredBy}
+use Rattle.debts.proofs.Owing.{reached-is}
 
 -- a walk along a chain for the lowest node stands before i: the nodes of the bucket's records from i on are taken over
 pub record Lowering (f : Tells ℕ) (b : ℕ) (log : List ℕ) (n : ℕ) (P : ℕ → Bool) (i : ℕ) (best : Option ℕ) : Type 0 where
@@ -36,7 +36,8 @@ pub record Lowering (f : Tells ℕ) (b : ℕ) (log : List ℕ) (n : ℕ) (P : �
   pub sound : Sound P best
   pub done : (k m : ℕ) → i ≤ k → k < n → In f b log k → isBy m (recordAt log k) ≡ true → P m ≡ true → atMost best m ≡ true
 
-module _ (f : Tells ℕ) (b : ℕ) (log : List ℕ) (n : ℕ) (P : ℕ → Bool) {heads links cap : ℕ} {work : List ℕ} (c : Chained f heads links cap (hist log n) work) (taken : n ≤ cap) where
+module _ (f : Tells ℕ) (b : ℕ) (log : List ℕ) (n : ℕ) (P : ℕ → Bool) {heads links cap : ℕ} {work : List ℕ}
+    (c : Chained f heads links cap (hist log n) work) (taken : n ≤ cap) where
   pub lower-first : {at i d : ℕ} → d ≡ b → d < cap → at ≡ heads + d → i ≡ clamp (getD work at 0) n → Lowering f b log n P i none
   lower-first {at} {i} {d} ed l a e =
       let w : getD work at 0 ≡ latestIn f (hist log n) b = ap (λ (k : ℕ). getD work k 0) (a ∙ ap (λ (k : ℕ). heads + k) ed) ∙ c .tops .word b (rw ed at l) in
@@ -81,18 +82,9 @@ module _ (f : Tells ℕ) (b : ℕ) (log : List ℕ) (n : ℕ) (P : ℕ → Bool)
             ];
       }
 
-  least-found : (o q : Option ℕ) → Least P o → LowestOfAll P q → o ≡ q
-  least-found none none p q = refl
-  least-found none (some d) p q = never (p .least d (q .0)) refl
-  least-found (some a) none p q = never (p .sound .is a refl) (q a)
-  least-found (some a) (some d) p q =
-      let u : a ≤ d = leb-true a d (p .least d (q .0)) in
-      let v : d ≤ a = q .1 a (p .sound .is a refl) in
-      let e : a ≡ d = omega arith in
-      ap some e
-
   -- where every number that passes is the node of a record of the bucket
-  pub lower-end : {i : ℕ} {best q : Option ℕ} → i ≡ 0 → Lowering f b log n P i best → ((m : ℕ) → P m ≡ true → (k : ℕ) × ((k < n) × (In f b log k × (isBy m (recordAt log k) ≡ true))))
+  pub lower-end : {i : ℕ} {best q : Option ℕ} → i ≡ 0 → Lowering f b log n P i best
+      → ((m : ℕ) → P m ≡ true → (k : ℕ) × ((k < n) × (In f b log k × (isBy m (recordAt log k) ≡ true))))
       → LowestOfAll P q → best ≡ q
   lower-end {i} {best} {q} z w every all =
       least-found best q (record {
@@ -116,5 +108,6 @@ lacking-met cap log n s x m e =
     let y = and-left (isBy m (recordAt log k)) _ u in
     let a = eqb-true (recordAt log k .a) (s .parent) (and-right (isBy m (recordAt log k)) _ u) in
     let t : recordsBy (recordAt log k) (hist log k) (recordAt log k .node) ≡ true =
-    by-marked (λ j. isKind 2 (recordAt log k) && not (isRestated j (hist log k))) (recordsBy (recordAt log k) (hist log k)) (λ j. refl) m (recordAt log k .node) y ∙ v in
+    by-marked (λ j. isKind 2 (recordAt log k) && not (isRestated j (hist log k))) (recordsBy (recordAt log k) (hist log k)) (λ j. refl) m
+    (recordAt log k .node) y ∙ v in
     (k, (omega arith, (rw (t, a), y)))

@@ -1,15 +1,7 @@
 // half, at a Took of a registered split, at a RangesRestated and at a registering.
-use crate::debt::debt_of;
 use crate::lacking::lowest_lacking;
 use crate::missing::lowest_missing;
-use crate::missing::named_by;
-use crate::split::has_taken;
-use crate::split::is_voter;
-use crate::split::parent_of;
-use crate::split::registers;
-use crate::split::right_of;
-use crate::split::split_of;
-use crate::state::server_of;
+use debts::debt::debt_of;
 use history::log::record_at;
 use one_owner_per_key::held::held_by;
 use one_owner_per_key::held::latest_of;
@@ -19,6 +11,14 @@ use record::named::NodeId;
 use rules::Case;
 use rules::Evidence;
 use rules::Found;
+use splits::cells::named_by;
+use splits::split::has_taken;
+use splits::split::is_voter;
+use splits::split::parent_of;
+use splits::split::registers;
+use splits::split::right_of;
+use splits::split::split_of;
+use splits::state::server_of;
 ghost use mathlib.Core.Path.{_≡_};
 ghost use mathlib.Core.Bool.{true, not, _&&_};
 ghost use mathlib.Core.List.{[], _∷_, map};
@@ -36,9 +36,9 @@ ghost use Rattle.rules.specs.OneOwnerPerKey.{hasHold};
 ghost use Rattle.rules.specs.RightHalf.{Registered, serverOf, registered, registers, owes, isMissing, missingFault, registeringFault, halfAt};
 ghost use Rattle.history.specs.Logs.{hist};
 ghost use Rattle.history.specs.Bounds.{Bounds};
-ghost use Rattle.right_half.specs.Numbers.{splitNumber, namedNumber};
-ghost use Rattle.right_half.specs.Index.{Known};
-ghost use Rattle.right_half.specs.Walk.{foundIn};
+ghost use Rattle.splits.specs.Numbers.{splitNumber, namedNumber};
+ghost use Rattle.splits.specs.Columns.{Known};
+ghost use Rattle.right_half.specs.Answers.{foundIn};
 
 // A fault of half: node, parent, index, right.
 fn fault_of(kind: u8, node: u64, parent: u64, index: u64, right: u64) -> Case
@@ -57,7 +57,7 @@ fn fault_of(kind: u8, node: u64, parent: u64, index: u64, right: u64) -> Case
 }
 
 // The fault of a right range that a node owes and does not hold, with its debt's parent and index. The Rust's `missing`.
-fn missing(
+fn missing_case(
     log: &[u8],
     work: &[u64],
     count: usize,
@@ -97,13 +97,13 @@ fn lowest_case(
     ensures { λ r. ⌜ (Known cap (hist (now (log .entry)) count) (now (work .entry)) → foundIn lowest ≡ lowestOf (λ n. n) (isMissing (node .0) (hist (now (log .entry)) count)) (map (λ s. s .right) (registered (hist (now (log .entry)) count))) → r ≡ missingFault kind (node .0) (hist (now (log .entry)) count)) ⌝ }
 {
     match lowest {
-        Found::At(right) => missing(log, work, count, cap, kind, node, right),
+        Found::At(right) => missing_case(log, work, count, cap, kind, node, right),
         Found::Nothing => Case::Clear,
     }
 }
 
 // half of a RangesRestated: its node owes and holds with it what it did before.
-fn restated(log: &[u8], work: &[u64], count: usize, cap: usize, node: NodeId) -> Case
+fn restated_case(log: &[u8], work: &[u64], count: usize, cap: usize, node: NodeId) -> Case
     requires { ⌜ Bounds (now log) (now work) count cap ⌝ }
     ensures { λ r. ⌜ (Known cap (hist (now (log .entry)) count) (now (work .entry)) → r ≡ missingFault 2 (node .0) (hist (now (log .entry)) count)) ⌝ }
 {
@@ -148,7 +148,7 @@ fn is_lowest(
 
 // half of a Took of the split that the record with the number k registered: the lowest of what the node owed before and
 // of that split's right range.
-fn taken(
+fn taken_case(
     log: &[u8],
     work: &[u64],
     count: usize,
@@ -170,7 +170,14 @@ fn taken(
 }
 
 // half of a RaftApply.
-fn applied(log: &[u8], work: &[u64], count: usize, cap: usize, rec: &[u8], node: NodeId) -> Case
+fn applied_case(
+    log: &[u8],
+    work: &[u64],
+    count: usize,
+    cap: usize,
+    rec: &[u8],
+    node: NodeId,
+) -> Case
     requires { ⌜ Bounds (now log) (now work) count cap × (length (now rec) ≡ 368) ⌝ }
     ensures { λ r. ⌜ (Known cap (hist (now (log .entry)) count) (now (work .entry)) → decode (now (rec .entry)) .node ≡ Marked node → isKind 3 (decode (now (rec .entry))) ≡ true → r ≡ halfAt (decode (now (rec .entry))) (hist (now (log .entry)) count)) ⌝ }
 {
@@ -181,12 +188,12 @@ fn applied(log: &[u8], work: &[u64], count: usize, cap: usize, rec: &[u8], node:
     if k == 0 {
         return Case::Clear;
     }
-    taken(log, work, count, cap, rec, node, k)
+    taken_case(log, work, count, cap, rec, node, k)
 }
 
 // What half says of a record's registering: the lowest node that lacks the right range. `named` is the number of the record
 // that names it, 0 where the record registers nothing.
-pub fn registering(
+fn registering_case(
     log: &[u8],
     work: &[u64],
     count: usize,
@@ -211,13 +218,20 @@ pub fn registering(
 }
 
 // half of a record that may register: kinds 1 and 2.
-fn registered(log: &[u8], work: &[u64], count: usize, cap: usize, rec: &[u8], node: NodeId) -> Case
+fn registered_case(
+    log: &[u8],
+    work: &[u64],
+    count: usize,
+    cap: usize,
+    rec: &[u8],
+    node: NodeId,
+) -> Case
     requires { ⌜ Bounds (now log) (now work) count cap × (length (now rec) ≡ 368) ⌝ }
     ensures { λ r. ⌜ (Known cap (hist (now (log .entry)) count) (now (work .entry)) → decode (now (rec .entry)) .node ≡ Marked node → r ≡ caseOf (registeringFault (decode (now (rec .entry))) (hist (now (log .entry)) count)) (registers (decode (now (rec .entry))) (hist (now (log .entry)) count))) ⌝ }
 {
     let last = latest_of(log, work, count, cap, count, node);
     let named = registers(log, work, count, cap, rec, last);
-    registering(log, work, count, cap, rec, named)
+    registering_case(log, work, count, cap, rec, named)
 }
 
 // The half check's case of a record. Records of other kinds than 1, 2, 3 and 5 cost nothing.
@@ -231,13 +245,13 @@ pub fn half(log: &[u8], work: &[u64], count: usize, cap: usize, rec: &[u8]) -> C
     };
     let kind = field::kind(rec);
     if kind == 5 {
-        return restated(log, work, count, cap, node);
+        return restated_case(log, work, count, cap, node);
     }
     if kind == 3 {
-        return applied(log, work, count, cap, rec, node);
+        return applied_case(log, work, count, cap, rec, node);
     }
     if (kind == 1) | (kind == 2) {
-        return registered(log, work, count, cap, rec, node);
+        return registered_case(log, work, count, cap, rec, node);
     }
     Case::Clear
 }

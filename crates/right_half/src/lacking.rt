@@ -1,17 +1,9 @@
 // The nodes that a registering finds without the right range: restated, their recorded index reaching the split, owing the
 // right range, and without it at their latest RangesRestated.
 use crate::missing::is_below;
-use crate::missing::named_by;
-use crate::note::recorded_bucket;
-use crate::note::registering_by;
-use crate::owed::cancel_of;
-use crate::owed::is_reached;
-use crate::owed::owes_by;
-use crate::split::is_voter;
-use crate::split::right_of;
-use crate::state::number_by;
-use crate::state::server_by;
-use history::chain::link;
+use debts::owed::cancel_of;
+use debts::owed::is_reached;
+use debts::owed::owes_by;
 use history::log::record_at;
 use one_owner_per_key::held::held_by;
 use one_owner_per_key::held::latest_of;
@@ -19,19 +11,28 @@ use record::field;
 use record::named::Node;
 use record::named::NodeId;
 use rules::Found;
+use splits::cells::named_by;
+use splits::cells::recorded_below;
+use splits::cells::recorded_top;
+use splits::cells::refused_by;
+use splits::cells::registering_by;
+use splits::cells::restated_by;
+use splits::cells::server_by;
+use splits::split::is_voter;
+use splits::split::right_of;
 ghost use mathlib.Core.Path.{_≡_};
-ghost use mathlib.Core.Bool.{Bool, true, false};
+ghost use mathlib.Core.Bool.{true, false};
 ghost use mathlib.Core.Option.{some};
-ghost use Prim.Native.Nat.{_+_, _*_, _≤_, _<_};
+ghost use Prim.Native.Nat.{_≤_, _<_};
 ghost use lib.ListN.{length};
 ghost use Rattle.record.specs.Records.{decode};
 ghost use Rattle.rules.specs.History.{isSome, lowestOf};
 ghost use Rattle.rules.specs.RightHalf.{Registered, registers, isRestated, restatedWith, owes, lacks, nodesOf};
 ghost use Rattle.history.specs.Logs.{hist};
 ghost use Rattle.history.specs.Bounds.{Bounds};
-ghost use Rattle.right_half.specs.Numbers.{restatedNumber, refusedNumber};
-ghost use Rattle.right_half.specs.Index.{Known};
-ghost use Rattle.right_half.specs.Walk.{foundIn, loweredBy};
+ghost use Rattle.splits.specs.Numbers.{restatedNumber, refusedNumber};
+ghost use Rattle.splits.specs.Columns.{Known};
+ghost use Rattle.right_half.specs.Answers.{foundIn, loweredBy};
 
 // Whether a node owes a right range, by whatever split; refused: its latest refusal.
 pub fn is_owed(
@@ -97,11 +98,11 @@ pub fn lacks_at(
     ensures { λ r. ⌜ (Known cap (hist (now (log .entry)) count) (now (work .entry)) → (s : Registered) → registers (decode (now (rec .entry))) (hist (now (log .entry)) count) ≡ some s → parent ≡ s .parent → index ≡ s .index → right ≡ s .right → r ≡ lacks s (decode (now (rec .entry))) (hist (now (log .entry)) count) (node .0)) ⌝ }
 {
     let last = latest_of(log, work, count, cap, count, node);
-    let restated = number_by(work, 23 * cap, last);
+    let restated = restated_by(work, cap, last);
     if restated == 0 {
         return false;
     }
-    let refused = number_by(work, 24 * cap, last);
+    let refused = refused_by(work, cap, last);
     if !is_reached(log, work, count, cap, count, refused, node, parent, index) {
         return false;
     }
@@ -158,7 +159,7 @@ pub fn lowest_lacking(
     ensures { λ r. ⌜ (Known cap (hist (now (log .entry)) count) (now (work .entry)) → (s : Registered) → registers (decode (now (rec .entry))) (hist (now (log .entry)) count) ≡ some s → parent ≡ s .parent → index ≡ s .index → right ≡ s .right → foundIn r ≡ lowestOf (λ n. n) (lacks s (decode (now (rec .entry))) (hist (now (log .entry)) count)) (nodesOf (hist (now (log .entry)) count))) ⌝ }
 {
     let mut best = Found::Nothing;
-    let mut i = link(work, 30 * cap + recorded_bucket(cap, parent), count);
+    let mut i = recorded_top(work, cap, count, parent);
     while 0 < i {
         let at = i - 1;
         best = lowered_by(
@@ -173,7 +174,7 @@ pub fn lowest_lacking(
             right,
             best,
         );
-        i = link(work, 31 * cap + at, at);
+        i = recorded_below(work, cap, at);
     }
     best
 }

@@ -1,9 +1,4 @@
-// The right half's clause of `OneOwnerPerKey`.
+// The right half's clause of `OneOwnerPerKey`: the half check, over what a node owes and does not hold.
 pub mod check;
-pub mod debt;
 pub mod lacking;
 pub mod missing;
-pub mod note;
-pub mod owed;
-pub mod split;
-pub mod state;

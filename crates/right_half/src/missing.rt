@@ -1,29 +1,30 @@
 // The lowest right range that a node owes and does not hold: over the registered splits, the latest first.
-use crate::note::registering_by;
-use crate::owed::cancel_of;
-use crate::owed::has_part;
-use crate::owed::owes_by;
-use crate::split::right_of;
-use crate::state::number_by;
+use debts::owed::cancel_of;
+use debts::owed::has_part;
+use debts::owed::owes_by;
 use history::log::record_at;
 use one_owner_per_key::cells::end_by;
 use one_owner_per_key::held::held_after;
 use one_owner_per_key::held::latest_of;
 use record::named::NodeId;
 use rules::Found;
+use splits::cells::named_by;
+use splits::cells::refused_by;
+use splits::cells::registering_by;
+use splits::split::right_of;
 ghost use mathlib.Core.Path.{_≡_};
 ghost use mathlib.Core.Bool.{cond};
 ghost use mathlib.Core.List.{map};
-ghost use Prim.Native.Nat.{_+_, _*_, _/_, _≤_, _<_};
-ghost use lib.ListN.{length, getD};
+ghost use Prim.Native.Nat.{_<_};
 ghost use Rattle.rules.specs.History.{lower, lowestOf};
 ghost use Rattle.rules.specs.RightHalf.{registered, isMissing};
 ghost use Rattle.history.specs.Logs.{hist};
 ghost use Rattle.history.specs.Bounds.{Bounds};
 ghost use Rattle.one_owner_per_key.specs.Numbers.{latestEnd};
-ghost use Rattle.right_half.specs.Numbers.{refusedNumber};
-ghost use Rattle.right_half.specs.Index.{Known};
-ghost use Rattle.right_half.specs.Walk.{lacksSplit, foundIn, isBelow};
+ghost use Rattle.splits.specs.Numbers.{refusedNumber};
+ghost use Rattle.splits.specs.Columns.{Known};
+ghost use Rattle.right_half.specs.Answers.{lacksSplit, foundIn};
+ghost use Rattle.one_owner_per_key.specs.Answers.{isBelow};
 
 // Whether a range is below the lowest so far.
 pub fn is_below(right: u64, best: Found) -> bool
@@ -33,14 +34,6 @@ pub fn is_below(right: u64, best: Found) -> bool
         Found::At(b) => right < b,
         Found::Nothing => true,
     }
-}
-
-// The number of the record that names the right range of the split that the record at a place registers.
-pub fn named_by(work: &[u64], cap: usize, at: usize) -> usize
-    requires { ⌜ (32 * cap ≤ length (now work)) × ((at < cap) × (cap ≤ 4096)) ⌝ }
-    ensures { λ r. ⌜ r ≡ getD (now (work .entry)) (26 * cap + at) 0 / 8192 ⌝ }
-{
-    (work[26 * cap + at] / 8192) as usize
 }
 
 // Whether a node lacks the right range of the split that the record at place t registers; ended: its latest crash or
@@ -101,7 +94,7 @@ pub fn lowest_missing(log: &[u8], work: &[u64], count: usize, cap: usize, node: 
 {
     let last = latest_of(log, work, count, cap, count, node);
     let ended = end_by(work, cap, last);
-    let refused = number_by(work, 24 * cap, last);
+    let refused = refused_by(work, cap, last);
     let mut best = Found::Nothing;
     let mut i = registering_by(work, cap, count);
     while 0 < i {

@@ -1,6 +1,6 @@
 -- Words read as reports are those words again, and reports written as words read back. Assumes nothing.
 use mathlib.Core.Path.{_≡_, refl, sym, ap, _∙_, subst}
-use mathlib.Core.Bool.{Bool, true, false, _&&_}
+use mathlib.Core.Bool.{Bool, true, _&&_}
 use mathlib.Core.List.{List, [], _∷_, _++_, append-assoc}
 use Prim.Native.Nat.{ℕ, zero, suc, _+_, _*_, _≤_, _<_}
 use native.Mathlib.Decide.{ℕ-discrete}
@@ -10,6 +10,7 @@ use borrow.Author.Tests.{leb-true, le-leb}
 use lib.Dec.{leb}
 use lib.ListN.{length, getD, take, drop, set, length-append, length-set, drop-of-length-le}
 use lib.Seq.{sets, drop-cons, take-all, take-suc-set, getD-append-add, getD-set-same, getD-set-other}
+use Rattle.record.proofs.Lists.{sets-tail}
 use Rattle.rules.specs.declared.Case.{Case}
 use Rattle.rules.specs.declared.Case.the-variants.{Clear, Fault}
 use Rattle.rules.specs.declared.Evidence.{Evidence}
@@ -18,10 +19,9 @@ use Rattle.rules.specs.declared.Verdict.{Verdict}
 use Rattle.rules.specs.declared.Verdict.the-variants.{Pass, Faulted}
 use Rattle.rules.specs.Reports.{passed, faulted}
 use Rattle.rules.specs.Checks.{checkCount}
-use Rattle.rules.proofs.Booleans.{and-left, and-right, both}
+use Rattle.record.proofs.Booleans.{and-left, and-right, both}
 use Rattle.rows.specs.Rows.{rowsSize, kindWord, reportWords, rowsOf, verdictIn, reportIn, reportsFrom, reportsIn}
 use Rattle.rows.specs.Rows.{KindsFit, kindsFitIn, kindsFit, enteredIn, EntersIn}
-use Rattle.rows.proofs.Rows.{length-rows, sets-all}
 
 -- ---- from words to reports and back to the words
 
@@ -147,20 +147,6 @@ pub rows-back : (rs : List Report) → length rs ≡ checkCount → AllRead rs �
 rows-back rs e a = ap (λ (n : ℕ). reportsFrom n (rowsOf rs) 0) (sym e) ∙ from-back [] rs a
 
 -- ---- one row
-
-set-tail : (a b : List ℕ) (i x : ℕ) → set (a ++ b) (length a + i) x ≡ a ++ set b i x
-set-tail [] b i x = ap (λ (n : ℕ). set b n x) (omega arith)
-set-tail (y ∷ a) b i x =
-    let e : length (y ∷ a) + i ≡ suc (length a + i) = omega arith in
-    ap (λ (n : ℕ). set (y ∷ a ++ b) n x) e ∙ ap (λ (t : List ℕ). y ∷ t) (set-tail a b i x)
-
-sets-tail : (a b : List ℕ) (i : ℕ) (vs : List ℕ) → sets (a ++ b) (length a + i) vs ≡ a ++ sets b i vs
-sets-tail a b i [] = refl
-sets-tail a b i (v ∷ vs) =
-    let e : suc (length a + i) ≡ length a + suc i = omega arith in
-    ap (λ (l : List ℕ). sets l (suc (length a + i)) vs) (set-tail a b i v)
-    ∙ ap (λ (n : ℕ). sets (a ++ set b i v) n vs) e
-    ∙ sets-tail a (set b i v) (suc i) vs
 
 -- a report's words stored at its row
 pub rows-set : (rs : List Report) (k : ℕ) (r : Report) → k < length rs → sets (rowsOf rs) (7 * k) (reportWords r) ≡ rowsOf (set rs k r)

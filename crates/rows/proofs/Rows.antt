@@ -1,12 +1,13 @@
 -- Words stored one after the other, and the rows of reports. Assumes nothing.
 use mathlib.Core.Path.{_≡_, refl, sym, ap, _∙_, subst}
-use mathlib.Core.List.{List, [], _∷_, _++_, append-assoc, append-nil}
+use mathlib.Core.List.{List, [], _∷_, _++_, append-assoc}
 use Prim.Native.Nat.{ℕ, suc, _+_, _*_, _≤_, _<_}
 use native.Mathlib.Numerals.{add-one}
 use native.Mathlib.Omega.{arith}
 use native.Mathlib.Decide.{ℕ-discrete}
-use lib.ListN.{length, getD, take, drop, set, length-append, drop-of-length-le}
-use lib.Seq.{sets, sets-eq, take-suc, take-all, length-take-le}
+use lib.ListN.{length, getD, take, set, length-append}
+use lib.Seq.{sets, take-suc, take-all, length-take-le}
+use Rattle.record.proofs.Lists.{sets-append}
 use Rattle.rules.specs.declared.Report.{Report}
 use Rattle.rules.specs.Reports.{passed}
 use Rattle.rows.specs.Rows.{kindWord, reportWords, rowsOf}
@@ -30,23 +31,6 @@ pub report-written : (l : List ℕ) (i : ℕ) (r : Report) {k : ℕ} → k ≡ k
 report-written l i r {k} e =
     set-seven l i k (r .at) (r .evidence .e0) (r .evidence .e1) (r .evidence .e2) (r .evidence .e3) (r .evidence .e4)
     ∙ ap (λ (w : ℕ). sets l i (w ∷ r .at ∷ r .evidence .e0 ∷ r .evidence .e1 ∷ r .evidence .e2 ∷ r .evidence .e3 ∷ r .evidence .e4 ∷ [])) e
-
--- a run of stores, and then a run after it
-pub sets-append : (l : List ℕ) (i : ℕ) (a b : List ℕ) → sets l i (a ++ b) ≡ sets (sets l i a) (i + length a) b
-sets-append l i [] b = ap (λ (k : ℕ). sets l k b) (omega arith)
-sets-append l i (x ∷ a) b =
-    sets-append (set l i x) (suc i) a b ∙ ap (λ (k : ℕ). sets (sets (set l i x) (suc i) a) k b) (omega arith)
-
--- stored from the start on, the words stand at the front, and the rest is as it was
-pub sets-front : (l words : List ℕ) → length words ≤ length l → sets l 0 words ≡ words ++ drop (length words) l
-sets-front l words h =
-    let e : 0 + length words ≡ length words = omega arith in
-    sets-eq words l 0 (omega arith) ∙ ap (λ (k : ℕ). words ++ drop k l) e
-
--- stored over all of a list, the words are the list
-pub sets-all : (l words : List ℕ) → length words ≡ length l → sets l 0 words ≡ words
-sets-all l words h =
-    sets-front l words (omega arith) ∙ ap (λ (t : List ℕ). words ++ t) (drop-of-length-le l {i = length words} (omega arith)) ∙ append-nil words
 
 pub rows-append : (rs ss : List Report) → rowsOf (rs ++ ss) ≡ rowsOf rs ++ rowsOf ss
 unfolding rowsOf

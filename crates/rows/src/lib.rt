@@ -11,7 +11,7 @@ ghost use lib.ListN.{length, getD};
 ghost use lib.Seq.{sets};
 ghost use Rattle.rules.specs.Reports.{passed};
 ghost use Rattle.rules.specs.Checks.{checkCount};
-ghost use Rattle.rows.specs.Rows.{rowsSize, kindWord, reportWords, rowsOf, verdictIn, reportIn, reportsIn, KindsFit, kindsFit, WrittenIn, EntersIn};
+ghost use Rattle.rows.specs.Rows.{rowsSize, kindWord, reportWords, verdictIn, reportIn, reportsIn, KindsFit, kindsFit, WrittenIn, EntersIn};
 
 // The words of a report: kind, position, five evidence numbers.
 pub const REPORT_WORDS: usize = 7;

@@ -15,7 +15,7 @@ use Rattle.rules.specs.Events.{events}
 use Rattle.rules.specs.Reports.{passed, faulted, atLast, Arises, reportOf}
 use Rattle.rules.specs.Checks.{checkAt}
 use Rattle.rules.specs.AnyOrder.{leasedOf, grantsOf, Unique, idsPlace, idsOf, Alike, pass, fault, AtMostOneHolder, oneLog, otherLog}
-use Rattle.rules.proofs.Booleans.{decide, never, and-left, and-right, both}
+use Rattle.record.proofs.Booleans.{decide, never, and-left, and-right, both}
 use Rattle.rules.proofs.Members.{Mem, anyOf-mem, anyOf-some, anyOf-none}
 use Rattle.rules.proofs.Permutations.{perm-mem, perm-those}
 use Rattle.rules.proofs.Reports.{Judged, clean, faulty, judged, passed-or}

@@ -8,9 +8,9 @@ use native.Mathlib.Omega.{arith}
 use lib.Dec.{ltb}
 use borrow.Author.Tests.{ltb-true, ltb-false, lt-ltb, le-ltb}
 use Rattle.rules.specs.History.{greater, greatestOf, lower, lowestOf}
-use Rattle.rules.proofs.Booleans.{never}
+use Rattle.record.proofs.Booleans.{never}
 use Rattle.rules.proofs.Members.{Mem, here, there, mem-nil, mem-cons, mem-left, NonePasses}
-use Rattle.rules.proofs.Placed.{Placed, placed-here, placed-there, placed-mem, Answer}
+use Rattle.rules.proofs.Placed.{Placed, placed-here, placed-there, placed-mem, Answer, answer-some, answer-passing}
 
 module _ {A : Type 0} where
   -- the best that passes, and the earliest of the best: none that passes is better, and it is better than each that passes before it
@@ -145,6 +145,15 @@ module _ {A : Type 0} (number : A → ℕ) where
     pub greatest-none : (xs : List A) → NonePasses p xs → greatestOf number p xs ≡ none
     greatest-none xs h = greatest-is xs ∙ best-none _ _ _ greatest-order p xs h
 
+    -- what is found is the greatest, and where one passes one is found that is not lower
+    pub greatest-meets : {xs : List A} {r : A} → greatestOf number p xs ≡ some r → Greatest number p xs r
+    greatest-meets {xs} e = answer-some (Greatest number p xs) p xs (greatestOf number p xs) (greatestOf-right xs) e
+
+    pub greatest-above : {xs : List A} {y : A} → Mem y xs → p y ≡ true → (r : A) × ((greatestOf number p xs ≡ some r) × (number y ≤ number r))
+    greatest-above {xs} {y} m e =
+        let w = answer-passing (Greatest number p xs) p xs (greatestOf number p xs) (greatestOf-right xs) m e in
+        (w .0, (w .1, greatest-meets (w .1) .most y m e))
+
     lower-keeps : (x : A) (b : Bool) (o : Option A) → cond b (lower number x o) o ≡ cond b (keep below x o) o
     lower-keeps x b none = refl
     lower-keeps x b (some y) = refl
@@ -162,3 +171,23 @@ module _ {A : Type 0} (number : A → ℕ) where
 
     pub lowest-none : (xs : List A) → NonePasses p xs → lowestOf number p xs ≡ none
     lowest-none xs h = lowest-is xs ∙ best-none _ _ _ lowest-order p xs h
+
+    pub lowest-meets : {xs : List A} {r : A} → lowestOf number p xs ≡ some r → Lowest number p xs r
+    lowest-meets {xs} e = answer-some (Lowest number p xs) p xs (lowestOf number p xs) (lowestOf-right xs) e
+
+    pub lowest-below : {xs : List A} {y : A} → Mem y xs → p y ≡ true → (r : A) × ((lowestOf number p xs ≡ some r) × (number r ≤ number y))
+    lowest-below {xs} {y} m e =
+        let w = answer-passing (Lowest number p xs) p xs (lowestOf number p xs) (lowestOf-right xs) m e in
+        (w .0, (w .1, lowest-meets (w .1) .most y m e))
+
+-- tests that say the same of every element find the same
+module _ {A : Type 0} (number : A → ℕ) (p q : A → Bool) (e : (x : A) → p x ≡ q x) where
+  pub greatest-agree : (xs : List A) → greatestOf number p xs ≡ greatestOf number q xs
+  unfolding greatestOf
+  greatest-agree [] = refl
+  greatest-agree (x ∷ xs) = rw (e x, greatest-agree xs)
+
+  pub lowest-agree : (xs : List A) → lowestOf number p xs ≡ lowestOf number q xs
+  unfolding lowestOf
+  lowest-agree [] = refl
+  lowest-agree (x ∷ xs) = rw (e x, lowest-agree xs)

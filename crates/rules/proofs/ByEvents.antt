@@ -18,7 +18,7 @@ use Rattle.rules.specs.History.{History}
 use Rattle.rules.specs.Cases.{isFault}
 use Rattle.rules.specs.Events.{first, continues, events, position, recordsIn, firstEvents}
 use Rattle.rules.specs.Reports.{passed, faulted, AtRecord, atLast, HasWhole, Arises, Steady, FirstFault, Right, reportOf}
-use Rattle.rules.proofs.Booleans.{decide, never}
+use Rattle.record.proofs.Booleans.{decide, never}
 use Rattle.rules.proofs.Beginnings.{first-later, first-all, first-nil, first-none, first-past, first-length, first-first}
 use Rattle.rules.proofs.Events.{events-same, events-next, events-first, events-order, recordsIn-within, recordsIn-longest, firstEvents-all}
 use Rattle.rules.proofs.Events.{firstEvents-later, firstEvents-most, Begun}

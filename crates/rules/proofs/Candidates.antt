@@ -15,7 +15,7 @@ use Rattle.rules.specs.History.{lowestOf, latest, told}
 use Rattle.rules.specs.Descriptors.{spanOf}
 use Rattle.rules.specs.OneOwnerPerKey.{isHolding, isEnding, tellsHold, holdOf, rangesOf, meets, lowestMeeting}
 use Rattle.rules.specs.RightHalf.{tellsRestated, isRestated, nodeNumber, nodesOf, Registered, lacks}
-use Rattle.rules.proofs.Booleans.{decide, never, and-left, and-right}
+use Rattle.record.proofs.Booleans.{decide, never, and-left, and-right}
 use Rattle.rules.proofs.Members.{Mem, here, there}
 use Rattle.rules.proofs.Placed.{Answer}
 use Rattle.rules.proofs.Firsts.{add-mem}

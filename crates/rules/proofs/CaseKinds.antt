@@ -3,9 +3,8 @@ use mathlib.Core.Path.{_≡_, refl}
 use mathlib.Core.Bool.{Bool, true, false, cond, not, _&&_}
 use mathlib.Core.List.{List, [], _∷_, map}
 use mathlib.Core.Option.{Option, none, some}
-use Prim.Native.Nat.{ℕ, zero, suc, _≤_, _<_}
+use Prim.Native.Nat.{ℕ, suc, _≤_}
 use native.Mathlib.Omega.{arith}
-use lib.ListN.{length, getD}
 use lib.Dec.{eqb, ltb, leb}
 use Rattle.record.specs.Records.{Span, TraceRecord}
 use Rattle.record.specs.declared.named.Node.{Node}
@@ -30,8 +29,8 @@ use Rattle.rules.specs.GenerationsRise.{Write, hasEffect, tellsWrite, sa
 use Rattle.rules.specs.IdsUnique.{Grant, grantEqb, nonempty, shares, tellsGrant, sameIndex, firstGrants, blocksOf, grantFault, idsAt}
 use Rattle.rules.specs.MetaNeverGoesBack.{Name, differsFrom, names, isWon, standingName, bounds, leastKey}
 use Rattle.rules.specs.MetaNeverGoesBack.{namedFault, nameFault, keyFault, wonFault, metaAt}
-use Rattle.rules.specs.Reports.{passed, atFirst, AtRecord, atLast, reportOf}
-use Rattle.rules.specs.Checks.{Check, checks, caseAt, reportBy, reportsOf, Every}
+use Rattle.rules.specs.Reports.{atFirst, AtRecord, atLast, reportOf}
+use Rattle.rules.specs.Checks.{Check, checks, caseAt, Every}
 
 module _ {most : ℕ} where
   within-clear : KindWithin most Clear

@@ -10,7 +10,7 @@ use Rattle.rules.specs.declared.Opening.{Opening}
 use Rattle.rules.specs.History.{History}
 use Rattle.rules.specs.Reports.{passed, Right, Steady}
 use Rattle.rules.specs.Checks.{Rule, atRecord, whole, Check, checks, checkCount, checkAt, caseBy, HasBy, caseAt, reportBy, reportsOf, Every}
-use Rattle.rules.proofs.Booleans.{and-left, and-right}
+use Rattle.record.proofs.Booleans.{and-left, and-right}
 use Rattle.rules.proofs.ByEvents.{Lawful, right, whole-lawful, arises-lawful}
 use Rattle.rules.proofs.Concerns.{agreement-none, agreement-steady}
 

@@ -1,6 +1,6 @@
 -- A record of a kind that does not concern a check leaves the check's report as it is. Assumes nothing.
 use mathlib.Core.Path.{_≡_, refl, sym, ap, _∙_}
-use mathlib.Core.Bool.{Bool, true, false, _&&_, _||_}
+use mathlib.Core.Bool.{true, false}
 use mathlib.Core.List.{List, [], _∷_}
 use mathlib.Core.Option.{Option, none, some}
 use Prim.Native.Nat.{ℕ}
@@ -11,23 +11,24 @@ use Rattle.record.specs.Records.{TraceRecord}
 use Rattle.record.specs.declared.named.Node.{Node}
 use Rattle.record.specs.declared.named.Node.the-variants.{Marked, Missing}
 use Rattle.rules.specs.declared.Case.{Case}
-use Rattle.rules.specs.declared.Case.the-variants.{Clear, Fault}
+use Rattle.rules.specs.declared.Case.the-variants.{Clear}
 use Rattle.rules.specs.declared.Opening.{Opening}
 use Rattle.rules.specs.declared.Report.{Report}
 use Rattle.rules.specs.declared.Verdict.{Verdict}
 use Rattle.rules.specs.declared.Verdict.the-variants.{Pass, Faulted}
-use Rattle.rules.specs.History.{History, isKind, when, given, anyOf, told, firsts}
-use Rattle.rules.specs.Cases.{isFault, faultIf, orCase, caseOf, earliestCase}
-use Rattle.rules.specs.Descriptors.{Role, neither, roleOf, putBy, statedBy, putFault, putsDiffer, statementFault, standing, stated, agreement}
+use Rattle.rules.specs.History.{History, isKind, anyOf, told, firsts}
+use Rattle.rules.specs.Cases.{earliestCase}
+use Rattle.rules.specs.Descriptors.{neither, roleOf, putFault, putsDiffer, standing, stated, agreement}
 use Rattle.rules.specs.OneOwnerPerKey.{byMarked, overlapAt, installAt, twiceAt}
-use Rattle.rules.specs.RightHalf.{Registered, Pending, pending, pendingSplit, splitBy, registers, halfAt}
+use Rattle.rules.specs.RightHalf.{Pending, pending, pendingSplit, splitBy, registers, halfAt}
 use Rattle.rules.specs.GenerationsRise.{generationsAt}
 use Rattle.rules.specs.IdsUnique.{idsAt}
 use Rattle.rules.specs.MetaNeverGoesBack.{metaAt}
 use Rattle.rules.specs.Events.{continues, position}
 use Rattle.rules.specs.Reports.{atFirst, atLast, Steady, reportOf}
 use Rattle.rules.specs.Checks.{Check, checks, checkAt, reportBy, concernedBy, Every}
-use Rattle.rules.proofs.Booleans.{never, and-left}
+use Rattle.record.proofs.Booleans.{and-left, or-neither}
+use Rattle.rules.proofs.CaseLists.{clear-of, or-clear}
 use Rattle.rules.proofs.Reports.{reportOf-step, reportOf-pass}
 
 -- ---- a report that is not moved
@@ -36,15 +37,11 @@ at-clear : (v : Verdict) (r : Report) (n : ℕ) → atFirst v r Clear n ≡ r
 at-clear Pass r n = refl
 at-clear (Faulted kind) r n = refl
 
-clear-by : (c : Case) → isFault c ≡ false → c ≡ Clear
-clear-by Clear e = refl
-clear-by (Fault kind w) e = never refl e
-
 module _ (f : History → Case) where
   -- a pass says that the check is clear
   pub pass-clear : f [] ≡ Clear → (h : History) → reportOf f h .verdict ≡ Pass → f h ≡ Clear
   pass-clear z [] e = z
-  pass-clear z (x ∷ h) e = clear-by (f (x ∷ h)) (reportOf-pass f x h e .1)
+  pass-clear z (x ∷ h) e = clear-of (f (x ∷ h)) (reportOf-pass f x h e .1)
 
   -- a record at which the check is clear leaves the report
   pub unmoved : (x : TraceRecord) (h : History) → f (x ∷ h) ≡ Clear → reportOf f (x ∷ h) ≡ reportOf f h
@@ -65,18 +62,10 @@ module _ (f : History → Case) where
 -- ---- the kinds
 
 -- what a test of several kinds says of each of them
-or-clear : (c : Case) → orCase c Clear ≡ c
-or-clear Clear = refl
-or-clear (Fault kind e) = refl
-
-neither-of : (a b : Bool) → (a || b) ≡ false → (a ≡ false) × (b ≡ false)
-neither-of true b e = never refl e
-neither-of false b e = (refl, e)
-
 module _ (x : TraceRecord) where
   not-in : (k : ℕ) (ks : List ℕ) → anyOf (λ j. isKind j x) (k ∷ ks) ≡ false → (isKind k x ≡ false) × (anyOf (λ j. isKind j x) ks ≡ false)
   unfolding anyOf
-  not-in k ks e = neither-of _ _ e
+  not-in k ks e = or-neither _ _ e
 
 -- ---- each check
 

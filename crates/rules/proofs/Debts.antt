@@ -7,7 +7,7 @@ use Prim.Native.Nat.{ℕ}
 use Rattle.record.specs.Records.{TraceRecord}
 use Rattle.rules.specs.History.{History, isBy, isSome, latest}
 use Rattle.rules.specs.RightHalf.{Registered, registers, cancels, debtAt, owes}
-use Rattle.rules.proofs.Booleans.{none-some}
+use Rattle.record.proofs.Booleans.{none-some}
 use Rattle.rules.proofs.OwnDebts.{own-kinds}
 use Rattle.rules.proofs.Members.{Mem, here, there, mem-nil, mem-cons}
 
@@ -38,9 +38,6 @@ module _ (node right : ℕ) where
     pub debtAt-other : isBy node x ≡ false → registers x h ≡ none → debtAt node right x h ≡ none
     unfolding debtAt
     debtAt-other b r = rw (own-kinds node right x h, b, r)
-
-    pub owes-other : isBy node x ≡ false → registers x h ≡ none → owes node right (x ∷ h) ≡ owes node right h
-    owes-other b r = owes-kept (cancels-other b) (debtAt-other b r)
 
   -- ---- which debt: it is the latest, and no cancel came since
 

@@ -12,7 +12,7 @@ use borrow.Author.Tests.{le-leb, lt-leb}
 use Rattle.record.specs.Records.{TraceRecord}
 use Rattle.rules.specs.History.{History}
 use Rattle.rules.specs.Events.{continues, eventAfter, events, first, recordsIn, firstEvents, stray}
-use Rattle.rules.proofs.Booleans.{decide}
+use Rattle.record.proofs.Booleans.{decide}
 use Rattle.rules.proofs.Beginnings.{first-later, first-all, first-nil, first-past, first-first, first-next}
 
 -- ---- how many events

@@ -9,7 +9,7 @@ use native.Mathlib.Omega.{arith}
 use lib.ListN.{length}
 use Rattle.record.specs.Records.{TraceRecord}
 use Rattle.rules.specs.History.{History, Tells, orElse, addSome, addFirst, anyOf, those, latestOf, told, latest, firsts}
-use Rattle.rules.proofs.Booleans.{decide, never}
+use Rattle.record.proofs.Booleans.{decide, never}
 use Rattle.rules.proofs.Members.{Mem, here, there, mem-nil, Passing, NonePasses, anyOf-mem, anyOf-some, anyOf-none, none-anyOf, those-mem}
 use Rattle.rules.proofs.Skips.{those-nil, those-hit, those-skip}
 

@@ -18,7 +18,7 @@ use Rattle.rules.specs.IdsUnique.{Grant, grantBy, tellsGrant, sameIndex,
 use Rattle.rules.specs.IdsUnique.{sharedFault, firstFault, grantFault, idsAt, holdersOf}
 use Rattle.rules.specs.Reports.{Arises}
 use Rattle.rules.specs.AnyOrder.{leasedOf, grantsOf, Agree, Unique, AtMostOneHolder}
-use Rattle.rules.proofs.Booleans.{decide, never, and-left, and-right, both}
+use Rattle.record.proofs.Booleans.{decide, never, and-left, and-right, both}
 use Rattle.rules.proofs.Members.{Mem, here, there, mem-nil, mem-cons, NonePasses, anyOf-some, anyOf-none, none-anyOf, those-mem, mem-those}
 use Rattle.rules.proofs.Placed.{placed-mem, Latest, Answer, latestOf-right}
 use Rattle.rules.proofs.Best.{Greatest, greatestOf-right}

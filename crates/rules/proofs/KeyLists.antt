@@ -1,12 +1,15 @@
--- Lists of keys: the least that passes, and the last up to a key.
+-- Lists of keys: the least that passes, the last up to a key, and how many are above a key.
 use mathlib.Core.Path.{_≡_, refl}
 use mathlib.Core.Bool.{Bool, true, false, cond, not, _&&_}
 use mathlib.Core.List.{List, [], _∷_}
 use mathlib.Core.Option.{Option, none, some}
+use mathlib.Core.Logic.{⊎-elim}
+use Prim.Native.Nat.{ℕ, _+_, _≤_, _<_}
+use native.Mathlib.Omega.{arith}
 use Rattle.record.specs.Keys.{Key, keyLtb, Lt, Le}
 use Rattle.rules.specs.MetaNeverGoesBack.{lowerKey, leastKey}
-use Rattle.rules.proofs.Booleans.{never}
-use Rattle.record.proofs.Keys.{le-refl, clash, lt-le, lt-lt-lt, le-le-le}
+use Rattle.record.proofs.Booleans.{never}
+use Rattle.record.proofs.Keys.{lt-or-le, le-refl, clash, lt-le, lt-lt-lt, le-le-le}
 use Rattle.rules.proofs.Members.{Mem, here, there, mem-nil, mem-cons}
 use Rattle.rules.proofs.Placed.{Answer}
 
@@ -71,3 +74,28 @@ floor-is s k (x ∷ xs) h = floor-step s k x (lastUp s k xs) xs _ _ refl refl (f
 
 pub floor : (s k : Key) (xs : List Key) → Le s k → (f : Key) × Floor s k xs f
 floor s k xs h = (lastUp s k xs, floor-is s k xs h)
+
+-- ---- how many keys of a list are above one: what is left of a walk
+
+unfoldable pub above : Key → List Key → ℕ
+above c [] = 0
+above c (x ∷ xs) = cond (keyLtb c x) 1 0 + above c xs
+
+above-cons : (c x : Key) (xs : List Key) → above c (x ∷ xs) ≡ cond (keyLtb c x) 1 0 + above c xs
+unfolding above
+above-cons c x xs = refl
+
+one-le : (c n x : Key) → Lt c n → cond (keyLtb n x) 1 0 ≤ cond (keyLtb c x) 1 0
+one-le c n x h = ⊎-elim
+    (λ (l : Lt n x). rw (l .is, lt-lt-lt h l .is) (omega arith))
+    (λ (l : Le x n). rw (l .is) (omega arith))
+    (lt-or-le n x)
+
+above-le : (c n : Key) (xs : List Key) → Lt c n → above n xs ≤ above c xs
+unfolding above
+above-le c n [] h = omega arith
+above-le c n (x ∷ xs) h = omega (arith, one-le c n x h, above-le c n xs h)
+
+pub above-falls : {c n : Key} {xs : List Key} → Lt c n → Mem n xs → above n xs < above c xs
+above-falls {c} {n} h (here {xs = xs}) = rw (above-cons n n xs, above-cons c n xs, le-refl n .is, h .is) (omega (arith, above-le c n xs h))
+above-falls {c} {n} h (there {y = x} {xs = xs} m) = rw (above-cons n x xs, above-cons c x xs) (omega (arith, one-le c n x h, above-falls h m))

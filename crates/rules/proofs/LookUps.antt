@@ -3,16 +3,17 @@ use mathlib.Core.Path.{_≡_, refl, sym, ap, _∙_}
 use mathlib.Core.Bool.{Bool, true, _&&_}
 use mathlib.Core.List.{List}
 use mathlib.Core.Option.{Option, none, some}
-use Prim.Native.Nat.{ℕ, _≤_, _<_}
+use Prim.Native.Nat.{ℕ, _-_, _≤_, _<_}
+use native.Mathlib.Decide.{decLt}
 use native.Mathlib.Omega.{arith}
 use lib.Dec.{eqb, ltb, leb}
-use borrow.Author.Tests.{ltb-true, leb-true, eqb-true, lt-ltb, le-leb, eq-eqb}
+use borrow.Author.Tests.{ltb-true, leb-true, eqb-true, lt-ltb, le-ltb, le-leb, lt-leb, eq-eqb}
 use Rattle.rules.specs.History.{History, greatestOf, earliestOf}
 use Rattle.rules.specs.Descriptors.{Entry, standing, beforeIn, atIn, firstAtGenerationIn, before, at, firstAtGeneration}
-use Rattle.rules.proofs.Booleans.{never, and-left, and-right, both}
+use Rattle.record.proofs.Booleans.{never, and-left, and-right, both}
 use Rattle.rules.proofs.Members.{Mem}
 use Rattle.rules.proofs.Placed.{placed-mem, Answer, Earliest, earliestOf-right}
-use Rattle.rules.proofs.Best.{Greatest, greatestOf-right}
+use Rattle.rules.proofs.Best.{Greatest, greatestOf-right, greatest-agree}
 use Rattle.rules.proofs.Numbered.{Falling, falling-one, earliest-lowest}
 use Rattle.rules.proofs.Standing.{standing-one, standing-falls}
 
@@ -134,6 +135,23 @@ module _ (range index : ℕ) (h : History) where
 
   pub at-none : ((w : Entry) → Mem w (standing h) → UpTo range index w → ⊥) → at range index h ≡ none
   at-none f = none-one f (λ v n. n .mem) (λ v n. n .suitable) (at range index h) at-right
+
+-- `before` is `at` of the index before
+below : (v index : ℕ) → 0 < index → leb v (index - 1) ≡ ltb v index
+below v index l = elim (decLt v index) [
+  | yes h ↦ le-leb v (index - 1) (omega arith) ∙ sym (lt-ltb v index h)
+  | no h ↦ lt-leb v (index - 1) (omega arith) ∙ sym (le-ltb v index (omega arith))
+]
+
+pub before-at : (range index : ℕ) (h : History) → 0 < index → at range (index - 1) h ≡ before range index h
+unfolding at atIn before beforeIn
+before-at range index h l =
+    greatest-agree (λ v. v .index) (λ v. eqb (v .range) range && leb (v .index) (index - 1)) (λ v. eqb (v .range) range && ltb (v .index) index)
+    (λ v. ap (λ (b : Bool). eqb (v .range) range && b) (below (v .index) index l)) (standing h)
+
+-- and nothing is before 0
+pub before-zero : (range index : ℕ) (h : History) → index ≡ 0 → before range index h ≡ none
+before-zero range index h e = before-none range index h (λ v m s. omega (arith, e, s .1))
 
 -- `first_at_generation`: the value that was put first
 module _ (range generation : ℕ) (h : History) where

@@ -5,7 +5,7 @@ use mathlib.Core.List.{List, [], _∷_, _++_}
 use mathlib.Core.Logic.{⊎-elim}
 pub use Rattle.rules.specs.History.{Mem, here, there}
 use Rattle.rules.specs.History.{anyOf, those}
-use Rattle.rules.proofs.Booleans.{decide, never, or-cases, or-left, or-right}
+use Rattle.record.proofs.Booleans.{decide, never, or-cases, or-left, or-right}
 use Rattle.rules.proofs.Skips.{those-nil, those-hit, those-skip}
 
 module _ {A : Type 0} where
@@ -62,6 +62,10 @@ module _ {A : Type 0} where
       by-test : (b : Bool) → anyOf p xs ≡ b → anyOf p xs ≡ false
       by-test true q = let w = anyOf-some p xs q in never (w .passes) (h (w .it) (w .mem))
       by-test false q = q
+
+  -- where no member passes a test, none passes a narrower one
+  pub anyOf-less : (p q : A → Bool) → ((x : A) → q x ≡ true → p x ≡ true) → (xs : List A) → anyOf p xs ≡ false → anyOf q xs ≡ false
+  anyOf-less p q i xs e = none-anyOf q xs (λ y m. ⊎-elim (λ t. never (i y t) (anyOf-none p xs e y m)) (λ t. t) (decide (q y)))
 
   -- `those`: the members that pass, each way, and in their order
   those-head : (p : A → Bool) (x : A) (xs : List A) {y : A} (b : Bool) → p x ≡ b → (Mem y (those p xs) → Mem y xs × (p y ≡ true))

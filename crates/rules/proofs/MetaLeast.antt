@@ -8,15 +8,16 @@ use borrow.Author.Tests.{not-true}
 use Rattle.record.specs.Keys.{Key, keyLtb, inside, Lt, Le}
 use Rattle.record.specs.Records.{TraceRecord}
 use Rattle.rules.specs.declared.Case.{Case}
+use Rattle.rules.specs.declared.Case.the-variants.{Clear}
 use Rattle.rules.specs.History.{greatestOf}
 use Rattle.rules.specs.Cases.{isFault, caseOf}
 use Rattle.rules.specs.Descriptors.{spanOf}
 use Rattle.rules.specs.MetaNeverGoesBack.{Name, covers, standingName, nameFault, keyFault, bounds, leastKey, wonFault, FirstFaultyKey}
 use Rattle.rules.specs.MetaNeverGoesBack.{FirstFaulty, at, clean}
-use Rattle.rules.proofs.Booleans.{decide, never, and-left, and-right}
+use Rattle.record.proofs.Booleans.{decide, never, and-left, and-right}
 use Rattle.record.proofs.Keys.{lt-or-le, clash, le-le-eq, lt-lt-lt, le-lt-lt, le-le-le}
-use Rattle.rules.proofs.Members.{Mem, here, there}
-use Rattle.rules.proofs.Placed.{Answer}
+use Rattle.rules.proofs.Members.{Mem, here, there, mem-nil}
+use Rattle.rules.proofs.Placed.{Answer, placed-mem}
 use Rattle.rules.proofs.KeyLists.{LeastKey, leastKey-right, Floor, floor}
 use Rattle.rules.proofs.Best.{Greatest, greatestOf-right}
 
@@ -36,6 +37,18 @@ standing-same k c [] h = refl
 standing-same k c (n ∷ ns) h =
     let t : standingName ns k ≡ standingName ns c = standing-same k c ns (λ x m. h x (there (there m))) in
     rw (h (n .start) here, h (n .end) (there here), t)
+
+-- an end of a name is one of the first, or of the rest
+pub bounds-cases : {A : Type 0} {b : Key} (v : Name) (ns : List Name) → Mem b (bounds (v ∷ ns)) → (b ≡ v .start → A) → (b ≡ v .end → A)
+    → (Mem b (bounds ns) → A) → A
+unfolding bounds
+bounds-cases v ns here f g h = f refl
+bounds-cases v ns (there here) f g h = g refl
+bounds-cases v ns (there (there m)) f g h = h m
+
+pub bounds-none : {A : Type 0} {b : Key} → Mem b (bounds []) → A
+unfolding bounds
+bounds-none m = mem-nil m
 
 pub keyFault-between : (x : TraceRecord) (ns : List Name) {c k : Key} → Le c k → ((b : Key) → Mem b (bounds ns) → Lt c b → Lt k b)
     → keyFault x ns k ≡ keyFault x ns c
@@ -121,3 +134,20 @@ module _ (x : TraceRecord) (ns : List Name) where
   -- what is shown to be that fault is `wonFault`
   pub wonFault-found : {c : Case} → FirstFaulty (keyFault x ns) (spanOf 1 x .start) (spanOf 1 x .end) c → wonFault x ns ≡ c
   wonFault-found w = faulty-one wonFault-right w
+
+  -- where no name that covers a won key is a fault for it, there is none
+  abbrev NoneFaulty : Type 0
+  NoneFaulty = (k : Key) → Le (spanOf 1 x .start) k → Lt k (spanOf 1 x .end) → (n : Name) → Mem n ns → covers k n ≡ true → isFault (nameFault x n) ≡ false
+
+  module _ (h : NoneFaulty) where
+    clear-by : (k : Key) → Le (spanOf 1 x .start) k → Lt k (spanOf 1 x .end) → (o : Option Name)
+        → Answer (Greatest (λ n. n .index) (covers k) ns) (covers k) ns o → isFault (caseOf (nameFault x) o) ≡ false
+    clear-by k a b none w = refl
+    clear-by k a b (some n) w = h k a b n (placed-mem (w .place)) (w .place .passes)
+
+    clear-key : (k : Key) → Le (spanOf 1 x .start) k → Lt k (spanOf 1 x .end) → isFault (keyFault x ns k) ≡ false
+    unfolding keyFault
+    clear-key k a b = clear-by k a b (standingName ns k) (standingName-right ns k)
+
+    pub names-clear : wonFault x ns ≡ Clear
+    names-clear = wonFault-found (clean clear-key refl)

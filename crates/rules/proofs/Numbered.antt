@@ -8,7 +8,7 @@ use native.Mathlib.Omega.{arith}
 use lib.ListN.{length}
 use Rattle.record.specs.Records.{TraceRecord}
 use Rattle.rules.specs.History.{History, Tells, numberAfter, addFirst, anyOf, firsts}
-use Rattle.rules.proofs.Booleans.{never}
+use Rattle.record.proofs.Booleans.{never}
 use Rattle.rules.proofs.Members.{Mem, here, there, mem-cons, mem-right}
 use Rattle.rules.proofs.Placed.{Earliest}
 use Rattle.rules.proofs.Firsts.{ToldBy, now, before, told-by, firsts-told}

@@ -11,7 +11,7 @@ use Rattle.rules.specs.History.{History, when, given, anyOf, addSome, ad
 use Rattle.rules.specs.IdsUnique.{Grant, sameIndex, tellsGrant, firstGrants}
 use Rattle.rules.specs.GenerationsRise.{Write, sameWrite, tellsWrite, writes}
 use Rattle.rules.specs.RightHalf.{Registered, sameSplit, tellsSplit, registered, unlessKnown, registers}
-use Rattle.rules.proofs.Booleans.{and-left, and-right, both}
+use Rattle.record.proofs.Booleans.{and-left, and-right, both}
 use Rattle.rules.proofs.Members.{Mem}
 use Rattle.rules.proofs.Firsts.{apart-one, firsts-apart, Sameness, FirstBy, firsts-by, by-firsts}
 

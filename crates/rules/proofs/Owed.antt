@@ -10,7 +10,7 @@ use Rattle.record.specs.Records.{TraceRecord}
 use Rattle.rules.specs.History.{History, when, orElse, isSome, given, addSome, greatestOf, lowestOf}
 use Rattle.rules.specs.RightHalf.{Registered, registered, registers, applies, isVoter, ownDebt, owesByRegistering, registeringDebt}
 use Rattle.rules.specs.RightHalf.{cancels, debtAt, owes, isMissing}
-use Rattle.rules.proofs.Booleans.{never, and-left, and-right}
+use Rattle.record.proofs.Booleans.{never, and-left, and-right}
 use Rattle.rules.proofs.Members.{Mem, here, there}
 use Rattle.rules.proofs.Placed.{Placed, Answer, placed-mem}
 use Rattle.rules.proofs.Best.{Greatest, greatestOf-right}

@@ -14,7 +14,8 @@ use Rattle.record.specs.Records.{TraceRecord}
 use Rattle.rules.specs.History.{History, isKind, isBy, latestOf, greatestOf}
 use Rattle.rules.specs.GenerationsRise.{hasEffect}
 use Rattle.rules.specs.RightHalf.{Registered, isSplit, registered, isRegistered, isRestated, applies, isVoter, ownDebt}
-use Rattle.rules.proofs.Booleans.{decide, never, and-left, and-right, both, kind-apart}
+use Rattle.record.proofs.Booleans.{decide, never, and-left, and-right, both}
+use Rattle.rules.proofs.Marks.{kind-apart}
 use Rattle.rules.proofs.Members.{Mem, here, there, anyOf-mem}
 use Rattle.rules.proofs.Placed.{Answer, Latest, latestOf-right, placed-mem}
 use Rattle.rules.proofs.Best.{Greatest, greatestOf-right, greatest-none}

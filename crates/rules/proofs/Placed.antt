@@ -1,9 +1,10 @@
 -- What `latestOf` and `earliestOf` find: each meets a plain relation, and what meets the relation is found.
-use mathlib.Core.Path.{_≡_, refl, ap, _∙_}
-use mathlib.Core.Bool.{Bool, true, false, cond}
+use mathlib.Core.Path.{_≡_, refl, ap, _∙_, subst}
+use mathlib.Core.Bool.{Bool, true, false, cond, _||_}
 use mathlib.Core.List.{List, [], _∷_, _++_}
-use mathlib.Core.Option.{Option, none, some}
-use Rattle.rules.specs.History.{when, orElse, latestOf, earliestOf}
+use mathlib.Core.Option.{Option, none, some, Option·some-injective}
+use Rattle.rules.specs.History.{when, orElse, isSome, anyOf, latestOf, earliestOf}
+use Rattle.record.proofs.Booleans.{never, none-some}
 use Rattle.rules.proofs.Members.{Mem, here, there, mem-nil, mem-cons, mem-right, NonePasses}
 use Rattle.rules.proofs.Skips.{latestOf-hit, latestOf-skip, earliestOf-kept, earliestOf-hit}
 
@@ -39,6 +40,16 @@ module _ {A : Type 0} where
   Answer R p xs none = NonePasses p xs
   Answer R p xs (some r) = R r
 
+  -- what such an answer gives meets the relation; and it gives something where an element passes
+  module _ (R : A → Type 0) (p : A → Bool) (xs : List A) where
+    pub answer-some : {r : A} (o : Option A) → Answer R p xs o → o ≡ some r → R r
+    answer-some none h e = none-some e
+    answer-some {r} (some y) h e = subst R (Option·some-injective y r e) h
+
+    pub answer-passing : {y : A} (o : Option A) → Answer R p xs o → Mem y xs → p y ≡ true → (r : A) × (o ≡ some r)
+    answer-passing {y} none h m e = never e (h y m)
+    answer-passing (some r) h m e = (r, refl)
+
   latest-next : (p : A → Bool) (x : A) (xs : List A) (b : Bool) (o : Option A) → p x ≡ b → Answer (Latest p xs) p xs o
       → Answer (Latest p (x ∷ xs)) p (x ∷ xs) (cond b (some x) o)
   latest-next p x xs true o e h = record { place = placed-here x xs e; after = λ y m. mem-nil m }
@@ -60,6 +71,13 @@ module _ {A : Type 0} where
   unfolding earliestOf
   earliestOf-right p [] = λ y m. mem-nil m
   earliestOf-right p (x ∷ xs) = earliest-next p x xs (p x) (earliestOf p xs) refl (earliestOf-right p xs)
+
+  pub earliest-meets : (p : A → Bool) {xs : List A} {r : A} → earliestOf p xs ≡ some r → Earliest p xs r
+  earliest-meets p {xs} e = answer-some (Earliest p xs) p xs (earliestOf p xs) (earliestOf-right p xs) e
+
+  -- where one passes, there is an earliest
+  pub earliest-passing : (p : A → Bool) {xs : List A} {y : A} → Mem y xs → p y ≡ true → (r : A) × (earliestOf p xs ≡ some r)
+  earliest-passing p {xs} m e = answer-passing (Earliest p xs) p xs (earliestOf p xs) (earliestOf-right p xs) m e
 
   -- what meets the relation is found
   pub latest-found : (p : A → Bool) {xs : List A} {r : A} → Latest p xs r → latestOf p xs ≡ some r
@@ -85,3 +103,24 @@ module _ {A : Type 0} where
       go : (later : List A) → earliestOf p (later ++ (r ∷ w .place .earlier)) ≡ some r
       go [] = earliestOf-hit p r _ (earliest-none p _ (w .before)) (w .place .passes)
       go (x ∷ l) = earliestOf-kept p x _ r (go l)
+
+-- whether one passes is whether one is found
+either-earliest : {A : Type 0} (b a : Bool) (v : A) (o : Option A) → a ≡ isSome o → b || a ≡ isSome (orElse o (when b v))
+either-earliest true a v none e = refl
+either-earliest true a v (some w) e = refl
+either-earliest false a v none e = e
+either-earliest false a v (some w) e = e
+
+pub any-earliest : {A : Type 0} (p : A → Bool) (vs : List A) → anyOf p vs ≡ isSome (earliestOf p vs)
+unfolding anyOf earliestOf
+any-earliest p [] = refl
+any-earliest p (v ∷ vs) = either-earliest (p v) (anyOf p vs) v (earliestOf p vs) (any-earliest p vs)
+
+any-go : {A : Type 0} (b a : Bool) (v : A) (o : Option A) → a ≡ isSome o → b || a ≡ isSome (cond b (some v) o)
+any-go true a v o e = refl
+any-go false a v o e = e
+
+pub any-latest : {A : Type 0} (p : A → Bool) (vs : List A) → anyOf p vs ≡ isSome (latestOf p vs)
+unfolding anyOf latestOf
+any-latest p [] = refl
+any-latest p (v ∷ vs) = any-go (p v) (anyOf p vs) v (latestOf p vs) (any-latest p vs)

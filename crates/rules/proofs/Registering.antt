@@ -1,14 +1,14 @@
--- Which records register a split: those of kinds 1 and 2 alone.
+-- Which records register a split: those of kinds 1 and 2 alone, and only one that was not registered.
 use mathlib.Core.Path.{_≡_, refl, sym, _∙_}
-use mathlib.Core.Bool.{Bool, true, false, _||_}
+use mathlib.Core.Bool.{Bool, true, false, not, _||_}
 use mathlib.Core.List.{_∷_}
-use mathlib.Core.Option.{Option, none, some}
+use mathlib.Core.Option.{Option, none, some, Option·some-inj}
 use Rattle.record.specs.declared.named.Node.{Node}
 use Rattle.record.specs.declared.named.Node.the-variants.{Marked, Missing}
 use Rattle.record.specs.Records.{TraceRecord}
-use Rattle.rules.specs.History.{History, isKind}
-use Rattle.rules.specs.RightHalf.{Pending, Registered, pending, pendingSplit, splitBy, registered, registers}
-use Rattle.rules.proofs.Booleans.{none-some}
+use Rattle.rules.specs.History.{History, isKind, when, given}
+use Rattle.rules.specs.RightHalf.{Pending, Registered, pending, pendingSplit, splitBy, tellsSplit, registered, isRegistered, unlessKnown, registers}
+use Rattle.record.proofs.Booleans.{none-some}
 use Rattle.rules.proofs.Once.{registered-step}
 
 module _ (x : TraceRecord) (h : History) where
@@ -35,3 +35,16 @@ module _ (x : TraceRecord) (h : History) where
       go true b e f = refl
       go false true e f = refl
       go false false e f = none-some (sym (registers-none e f) ∙ r)
+
+-- what registers was not registered
+new-cases : (h : History) (o : Option Registered) (s : Registered) → given (unlessKnown h) o ≡ some s → isRegistered (s .parent) (s .index) h ≡ false
+new-cases h none s e = none-some e
+new-cases h (some t) s e = go (isRegistered (t .parent) (t .index) h) refl e
+  where
+    go : (b : Bool) → isRegistered (t .parent) (t .index) h ≡ b → when (not b) t ≡ some s → isRegistered (s .parent) (s .index) h ≡ false
+    go true f g = none-some g
+    go false f g = rw (← Option·some-inj .0 g) f
+
+pub registers-new : (x : TraceRecord) (h : History) (s : Registered) → registers x h ≡ some s → isRegistered (s .parent) (s .index) h ≡ false
+unfolding registers
+registers-new x h s e = new-cases h (tellsSplit x h) s e

@@ -19,7 +19,7 @@ use Rattle.rules.specs.History.{History}
 use Rattle.rules.specs.Cases.{isFault}
 use Rattle.rules.specs.Events.{first, position}
 use Rattle.rules.specs.Reports.{passed, faulted, atFirst, reportOf}
-use Rattle.rules.proofs.Booleans.{never}
+use Rattle.record.proofs.Booleans.{never}
 use Rattle.rules.proofs.Beginnings.{first-later, first-all, first-nil}
 use Rattle.rules.proofs.CaseLists.{clear-of}
 

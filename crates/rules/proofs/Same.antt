@@ -15,7 +15,7 @@ use Rattle.record.proofs.Names.{state-named}
 use Rattle.rules.specs.History.{isKind}
 use Rattle.rules.specs.Descriptors.{Held, spanOf, heldBy, heldEqb, Same, namedEqb, SameNamed}
 use Rattle.rules.specs.MetaNeverGoesBack.{differsFrom}
-use Rattle.rules.proofs.Booleans.{decide, and-left, and-right}
+use Rattle.record.proofs.Booleans.{decide, and-left, and-right}
 
 -- where the parts that a MetaApplied names pass the test they are equal, and where they are equal they pass it
 named-same : (v w : Held) → namedEqb v w ≡ true → SameNamed v w

@@ -3,8 +3,7 @@ use mathlib.Core.Path.{_≡_, refl}
 use mathlib.Core.Bool.{Bool, true, false, cond}
 use mathlib.Core.List.{List, [], _∷_}
 use mathlib.Core.Option.{Option, none, some}
-use Prim.Native.Nat.{ℕ, _≤_, _<_}
-use borrow.Author.Tests.{lt-ltb, le-ltb}
+use Prim.Native.Nat.{ℕ}
 use Rattle.record.specs.Records.{TraceRecord}
 use Rattle.rules.specs.History.{History, Tells, when, orElse, anyOf, those, latestOf, earliestOf, greatestOf, lowestOf, told, latest, firsts}
 
@@ -31,26 +30,10 @@ module _ {A : Type 0} (p : A → Bool) where
   unfolding latestOf
   latestOf-nil = refl
 
-  pub earliestOf-nil : earliestOf p [] ≡ none
-  unfolding earliestOf
-  earliestOf-nil = refl
-
-  pub greatestOf-nil : (number : A → ℕ) → greatestOf number p [] ≡ none
-  unfolding greatestOf
-  greatestOf-nil number = refl
-
-  pub lowestOf-nil : (number : A → ℕ) → lowestOf number p [] ≡ none
-  unfolding lowestOf
-  lowestOf-nil number = refl
-
 module _ {A : Type 0} (tells : Tells A) where
   pub told-nil : told tells [] ≡ []
   unfolding told
   told-nil = refl
-
-  pub latest-nil : latest tells [] ≡ none
-  unfolding latest
-  latest-nil = refl
 
   pub firsts-nil : (same : A → A → Bool) → firsts same tells [] ≡ []
   unfolding firsts
@@ -100,35 +83,9 @@ module _ {A : Type 0} (number : A → ℕ) (p : A → Bool) (x : A) (xs : List A
   unfolding greatestOf
   greatestOf-skip e = rw e
 
-  -- it is the only one to pass, it is greater, or it is not
-  pub greatestOf-only : p x ≡ true → greatestOf number p xs ≡ none → greatestOf number p (x ∷ xs) ≡ some x
-  unfolding greatestOf
-  greatestOf-only e f = rw (e, f)
-
-  pub greatestOf-hit : (y : A) → p x ≡ true → greatestOf number p xs ≡ some y → number y < number x → greatestOf number p (x ∷ xs) ≡ some x
-  unfolding greatestOf
-  greatestOf-hit y e f l = rw (e, f, lt-ltb (number y) (number x) l)
-
-  pub greatestOf-kept : (y : A) → greatestOf number p xs ≡ some y → number x ≤ number y → greatestOf number p (x ∷ xs) ≡ some y
-  unfolding greatestOf
-  greatestOf-kept y f l = rw (f, le-ltb (number y) (number x) l) (either (p x) (some y))
-
   pub lowestOf-skip : p x ≡ false → lowestOf number p (x ∷ xs) ≡ lowestOf number p xs
   unfolding lowestOf
   lowestOf-skip e = rw e
-
-  -- it is the only one to pass, it is lower, or it is not
-  pub lowestOf-only : p x ≡ true → lowestOf number p xs ≡ none → lowestOf number p (x ∷ xs) ≡ some x
-  unfolding lowestOf
-  lowestOf-only e f = rw (e, f)
-
-  pub lowestOf-hit : (y : A) → p x ≡ true → lowestOf number p xs ≡ some y → number x < number y → lowestOf number p (x ∷ xs) ≡ some x
-  unfolding lowestOf
-  lowestOf-hit y e f l = rw (e, f, lt-ltb (number x) (number y) l)
-
-  pub lowestOf-kept : (y : A) → lowestOf number p xs ≡ some y → number y ≤ number x → lowestOf number p (x ∷ xs) ≡ some y
-  unfolding lowestOf
-  lowestOf-kept y f l = rw (f, le-ltb (number x) (number y) l) (either (p x) (some y))
 
 -- one more record
 module _ {A : Type 0} (tells : Tells A) (x : TraceRecord) (h : History) where

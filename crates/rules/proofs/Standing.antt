@@ -1,25 +1,24 @@
 -- The standing values: one at each range and index, the first put there; newest first, so that their records' numbers fall.
-use mathlib.Core.Path.{_≡_, sym, ap}
-use mathlib.Core.Option.{Option, none, some}
-use Prim.Native.Nat.{ℕ}
+use mathlib.Core.Path.{_≡_, refl, sym, ap}
+use mathlib.Core.List.{_∷_}
 use Rattle.record.specs.Records.{TraceRecord}
-use Rattle.rules.specs.History.{History, numberAfter}
-use Rattle.rules.specs.Descriptors.{Entry, Role, puts, states, neither, putBy, roleOf, tellsPut, samePlace, standing}
-use Rattle.rules.proofs.Booleans.{none-some}
+use Rattle.rules.specs.History.{History, addSome, addFirst, told, firsts}
+use Rattle.rules.specs.Descriptors.{Entry, putBy, statedBy, roleOf, tellsPut, samePlace, standing, stated}
 use Rattle.rules.proofs.Members.{Mem}
 use Rattle.rules.proofs.Firsts.{Apart, apart-one, firsts-apart, FirstBy, firsts-by, by-firsts}
 use Rattle.rules.proofs.Once.{by-same, sameBy-sameness}
 use Rattle.rules.proofs.Numbered.{Falling, firsts-fall}
+use Rattle.rules.proofs.Roles.{puts-entry}
 
-abbrev numberOr : Option Entry → ℕ
-numberOr none = 0
-numberOr (some v) = v .number
+-- what one more record adds to the standing values, and to the statements
+module _ (x : TraceRecord) (h : History) where
+  pub standing-cons : standing (x ∷ h) ≡ addFirst samePlace (putBy (roleOf x h) x h) (standing h)
+  unfolding standing firsts
+  standing-cons = refl
 
--- a put carries its record's number
-put-number : (r : Role) (x : TraceRecord) (h : History) (v : Entry) → putBy r x h ≡ some v → v .number ≡ numberAfter h
-put-number (puts i) x h v e = sym (ap (λ (o : Option Entry). numberOr o) e)
-put-number (states i) x h v e = none-some e
-put-number neither x h v e = none-some e
+  pub stated-cons : stated (x ∷ h) ≡ addSome (statedBy (roleOf x h) x h) (stated h)
+  unfolding stated told
+  stated-cons = refl
 
 -- ---- the standing values
 
@@ -45,4 +44,4 @@ module _ (h : History) where
 
   pub standing-falls : Falling (λ v. v .number) (standing h)
   unfolding standing
-  standing-falls = firsts-fall (λ v. v .number) tellsPut (λ x g v e. put-number (roleOf x g) x g v e) samePlace h
+  standing-falls = firsts-fall (λ v. v .number) tellsPut (λ x g v e. ap (λ (u : Entry). u .number) (puts-entry x g e)) samePlace h

@@ -18,7 +18,7 @@ use Rattle.record.specs.Records.{Span, TraceRecord}
 use Rattle.rules.specs.declared.Case.{Case}
 use Rattle.rules.specs.declared.Case.the-variants.{Clear}
 use Rattle.rules.specs.Views.{rangeOf, generationBy, appliedBy, createdBy, descriptorBy}
-use Rattle.rules.specs.History.{History, numberAfter, isKind, isBy, when, orElse, isSome, holds, anyOf, latest, told, firsts, latestOf, earliestOf, greatestOf, lowestOf}
+use Rattle.rules.specs.History.{History, numberAfter, isKind, isBy, when, holds, latest, told, firsts, latestOf, earliestOf, greatestOf, lowestOf}
 use Rattle.rules.specs.Cases.{fault, faultIf, orCase, caseOf, earliestCase}
 
 -- a record's span number k, empty where it has none

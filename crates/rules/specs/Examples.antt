@@ -2,9 +2,7 @@
 -- MoreExamples, RightHalfExamples and EventExamples have further rows, LookUpExamples the look-ups'.
 use mathlib.Core.List.{List, [], _∷_, _++_, reverse}
 use Prim.Native.Nat.{ℕ}
-use lib.ListN.{getD}
 use Rattle.record.specs.Records.{TraceRecord}
-use Rattle.rules.specs.declared.Case.the-variants.{Clear}
 use Rattle.rules.specs.declared.Report.{Report}
 use Rattle.rules.specs.declared.Verdict.the-variants.{Pass, Faulted}
 use Rattle.rules.specs.Cases.{evidence}

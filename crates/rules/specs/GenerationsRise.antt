@@ -1,17 +1,16 @@
 -- `GenerationsRise`: the writes that count, and the generations check.
-use mathlib.Core.Bool.{Bool, true, false, cond, not, _&&_, _||_}
+use mathlib.Core.Bool.{Bool, true, not, _&&_, _||_}
 use mathlib.Core.List.{List, [], _∷_}
 use mathlib.Core.Option.{Option, none, some}
 use Prim.Native.Nat.{ℕ}
 use lib.ListN.{length}
 use lib.Dec.{eqb, ltb, leb}
 use Rattle.record.specs.declared.named.ApplyEffect.{ApplyEffect}
-use Rattle.record.specs.declared.named.ApplyEffect.the-variants.{Applied, Took}
+use Rattle.record.specs.declared.named.ApplyEffect.the-variants.{Applied}
 use Rattle.record.specs.Keys.{Key, keyEqb}
 use Rattle.record.specs.Named.{effectOf, effectNumber}
 use Rattle.record.specs.Records.{TraceRecord}
 use Rattle.rules.specs.declared.Case.{Case}
-use Rattle.rules.specs.declared.Case.the-variants.{Clear}
 use Rattle.rules.specs.Views.{applyBy}
 use Rattle.rules.specs.History.{History, isKind, when, anyOf, holds, firsts, latestOf}
 use Rattle.rules.specs.Cases.{fault, faultIf, caseOf}

@@ -1,14 +1,13 @@
 -- `IdsUnique`: the grants of ids, their blocks, and the ids check.
-use mathlib.Core.Bool.{Bool, true, false, cond, not, _&&_}
+use mathlib.Core.Bool.{Bool, cond, not, _&&_}
 use mathlib.Core.List.{List, [], _∷_}
 use mathlib.Core.Option.{Option, none, some}
 use Prim.Native.Nat.{ℕ}
-use lib.Dec.{eqb, ltb, leb}
+use lib.Dec.{eqb, leb}
 use Rattle.record.specs.Records.{TraceRecord}
 use Rattle.rules.specs.declared.Case.{Case}
-use Rattle.rules.specs.declared.Case.the-variants.{Clear}
 use Rattle.rules.specs.History.{History, isKind, when, anyOf, those, firsts, latestOf, greatestOf}
-use Rattle.rules.specs.Cases.{fault, faultIf, orCase, caseOf}
+use Rattle.rules.specs.Cases.{fault, faultIf, caseOf}
 
 -- "11 RangeIdsLeased: A node, B index, C run, D first, E last"
 pub record Grant : Type 0 where

@@ -11,6 +11,7 @@ pub mod MetaNeverGoesBack
 pub mod Events
 pub mod Reports
 pub mod Checks
+pub mod Answers
 pub mod Builders
 pub mod Examples
 pub mod MoreExamples

@@ -8,7 +8,7 @@ use Rattle.rules.specs.Reports.{passed}
 use Rattle.rules.specs.Builders.{by, unmarked, a, b, c, d, e, f, g, groupKey, span, bootstrap, split, snapshot, live, merging, subsumed, applied}
 use Rattle.rules.specs.Builders.{took, created, descriptor, putIn, put, keyed, write, apply, recovered, crashed, rangeSplit, installed, removed}
 use Rattle.rules.specs.Builders.{refused, leased, metaFor, metaApplied}
-use Rattle.rules.specs.Examples.{Row, agreement, overlap, install, twice, generations, ids, meta, row, rowUnder, faultAt, holding, disputed, named}
+use Rattle.rules.specs.Examples.{Row, agreement, overlap, install, twice, generations, ids, meta, row, rowUnder, faultAt, holding, disputed}
 
 -- ---- agreement
 

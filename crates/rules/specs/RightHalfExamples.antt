@@ -1,7 +1,6 @@
 -- Further rows of the check half: each clause of its definition each way. In most of them range 2 splits at index 5 and its right half is
 -- range 7, node 1 is the one that owes it, and node 2 tells of the split.
 use mathlib.Core.List.{List, [], _∷_, _++_}
-use Prim.Native.Nat.{ℕ}
 use Rattle.record.specs.Records.{TraceRecord}
 use Rattle.rules.specs.Reports.{passed}
 use Rattle.rules.specs.Builders.{by, unmarked, d, f, span, record-of, bootstrap, snapshot, applied, took, created, child, splitOff, orphan, tells}

@@ -2,6 +2,7 @@
 // of checks (specs/Checks.antt) what code needs to know.
 ghost use mathlib.Core.Path.{_≡_};
 ghost use Prim.Native.Nat.{_<_};
+ghost use Rattle.rules.specs.Cases.{isFault};
 ghost use Rattle.rules.specs.Checks.{checkCount, checkAt};
 
 // How many checks there are: as many as the table has.
@@ -28,6 +29,16 @@ pub struct Evidence {
 pub enum Case {
     Clear,
     Fault(u8, Evidence),
+}
+
+// Whether a case is a fault.
+pub fn is_fault(case: Case) -> bool
+    ensures { λ r. ⌜ r ≡ isFault «case» ⌝ }
+{
+    match case {
+        Case::Clear => false,
+        Case::Fault(_, _) => true,
+    }
 }
 
 pub enum Verdict {

@@ -8,24 +8,15 @@ use lib.ListN.{length, take, drop, length-take, length-drop}
 use lib.Seq.{take-nil, take-take}
 use lib.Dec.{eqb}
 use borrow.Author.Tests.{eq-eqb}
-use Rattle.record.specs.Form.{refusalOf}
+use Rattle.record.proofs.Lists.{drop-take}
+use Rattle.form.specs.Form.{refusalOf}
 use Rattle.record.specs.Records.{decode}
 use Rattle.rules.specs.History.{History}
 use Rattle.rules.specs.Events.{stray}
-use Rattle.intake.specs.Refusals.{orNext, refusalAfter}
-use Rattle.judge.specs.Pieces.{piecesIn, pieces, soundIn, refusalIn, soundPieces, firstRefusal, recordsTaken, recordsIn}
+use Rattle.decision.specs.Refusals.{orNext, refusalAfter}
+use Rattle.demands.specs.Pieces.{piecesIn, pieces, soundIn, refusalIn, soundPieces, firstRefusal, recordsTaken, recordsIn}
 
 -- ---- the pieces of the first so many records are the first so many pieces
-
-drop-take : (n m k : ℕ) (l : List ℕ) → k ≡ n + m → drop n (take k l) ≡ take m (drop n l)
-drop-take zero m k l e = let f : k ≡ m = omega arith in ap (λ (j : ℕ). take j l) f
-drop-take (suc n) m k [] e = ap (drop (suc n)) (take-nil k) ∙ take-none m
-  where
-    take-none : (m : ℕ) → _≡_ {A = List ℕ} [] (take m [])
-    take-none zero = refl
-    take-none (suc m) = refl
-drop-take (suc n) m zero (x ∷ l) e = absurd (omega arith)
-drop-take (suc n) m (suc k) (x ∷ l) e = drop-take n m k l (omega arith)
 
 pieces-nil : (k : ℕ) → piecesIn k [] ≡ []
 unfolding piecesIn

@@ -1,7 +1,7 @@
 -- The theorem for readers: what the printed bytes say of the bytes on standard input. Assumes nothing.
 use mathlib.Core.Path.{_≡_, refl, sym, ap, _∙_, subst}
 use mathlib.Core.Bool.{Bool, true, false, cond}
-use mathlib.Core.List.{List, [], _∷_}
+use mathlib.Core.List.{List}
 use mathlib.Core.Logic.{_⊎_, inl, inr}
 use Prim.Native.Nat.{ℕ, _+_, _*_, _≤_, _<_}
 use native.Mathlib.Omega.{arith}
@@ -9,20 +9,18 @@ use lib.ListN.{length, take, getD}
 use lib.Dec.{eqb}
 use borrow.Author.Tests.{eqb-true}
 use Rattle.rules.specs.declared.Case.{Case}
-use Rattle.rules.specs.declared.Case.the-variants.{Clear, Fault}
 use Rattle.rules.specs.declared.Evidence.{Evidence}
 use Rattle.rules.specs.declared.Report.{Report}
 use Rattle.rules.specs.declared.Verdict.{Verdict}
 use Rattle.rules.specs.declared.Verdict.the-variants.{Pass, Faulted}
-use Rattle.rules.specs.Cases.{isFault}
 use Rattle.rules.specs.History.{History}
 use Rattle.rules.specs.Reports.{passed, Right, reportOf}
 use Rattle.rules.specs.Checks.{checkCount, checkAt, HasBy, caseAt, reportBy, reportsOf}
-use Rattle.rules.proofs.Reports.{reportOf-none, reportOf-clear, reportOf-pass}
+use Rattle.rules.proofs.Reports.{reportOf-passed}
 use Rattle.rules.proofs.Checks.{report-at, check-right}
 use Rattle.judge.specs.States.{refusalNumber}
 use Rattle.judge.specs.Openings.{Fits}
-use Rattle.judge.proofs.Pieces.{whole-trace}
+use Rattle.demands.proofs.Pieces.{whole-trace}
 use Rattle.sheet_text.specs.Sheets.{passLine, lineOf, line, nameAt, lastLine, lineAt, sheetSize}
 use Rattle.sheet_text.proofs.Lines.{last-none}
 use Rattle.sheet_text.proofs.Printed.{printed-front}
@@ -34,17 +32,6 @@ use Rattle.sheet.proofs.Enough.{same-pieces, same-refusal, same-records
 
 -- ---- a check's line
 
--- a report without a fault is the report of a pass, with no position and no evidence
-clear-of : (c : Case) → isFault c ≡ false → c ≡ Clear
-clear-of Clear e = refl
-clear-of (Fault kind d) e = let z : _≡_ {A = ℕ} 0 1 = cc in absurd (omega arith)
-
-pass-whole : (f : History → Case) (h : History) → reportOf f h .verdict ≡ Pass → reportOf f h ≡ passed
-pass-whole f [] e = reportOf-none f
-pass-whole f (x ∷ h) e =
-    let w = reportOf-pass f x h e in
-    reportOf-clear f x h (pass-whole f h (w .0)) (clear-of (f (x ∷ h)) (w .1))
-
 one-line : (name : List ℕ) (v : Verdict) (at : ℕ) (e : Evidence) → (lineOf name v at e ≡ passLine name) ⊎ FaultLine name (lineOf name v at e)
 one-line name Pass at e = inl refl
 one-line name (Faulted kind) at e = inr (record { kind = kind; at = at; evidence = e; is = refl })
@@ -53,7 +40,7 @@ one-line name (Faulted kind) at e = inr (record { kind = kind; at = at; evidence
 line-says : {has : History → Type 0} {says : History → Case} {h : History} (name : List ℕ) (r : Report) → r ≡ reportOf says h → Right has says h r
     → LineSays has says h name (line name r)
 line-says {has} {says} {h} name r e right = record {
-  pass-only = λ q. right .pass-only (e ∙ pass-whole says h (ap (λ (s : Report). s .verdict) (sym e) ∙ line-pass-only name r q));
+  pass-only = λ q. right .pass-only (e ∙ reportOf-passed says h (ap (λ (s : Report). s .verdict) (sym e) ∙ line-pass-only name r q));
   pass-if = λ none. ap (line name) (right .pass-if none);
   fault-only = λ kind n d q. right .fault-only n kind d (line-fault-only name r kind n d q);
   fault-if = λ kind n d a. ap (line name) (right .fault-if n kind d a);

@@ -9,7 +9,7 @@ use Rattle.rules.specs.declared.Evidence.{Evidence}
 use Rattle.rules.specs.History.{History}
 use Rattle.rules.specs.Reports.{FirstFault, Free}
 use Rattle.rules.specs.Checks.{checkCount, checkAt, HasBy, caseAt}
-use Rattle.judge.specs.Pieces.{soundPieces, firstRefusal, recordsTaken}
+use Rattle.demands.specs.Pieces.{soundPieces, firstRefusal, recordsTaken}
 use Rattle.sheet_text.specs.Sheets.{passLine, faultLine, nameAt, lastLine, lineAt}
 use Rattle.sheet.specs.Printing.{opening}
 

@@ -1,18 +1,13 @@
 -- Laws of text written into a list of bytes: two texts one after the other are one text, and what room is left after one.
-use mathlib.Core.Path.{_≡_, refl, ap, _∙_}
+use mathlib.Core.Path.{_≡_, refl, sym, ap, _∙_}
 use mathlib.Core.List.{List, [], _∷_, _++_}
 use Prim.Native.Nat.{ℕ, suc, _+_, _≤_, _<_}
 use native.Mathlib.Omega.{arith}
 use native.Mathlib.Numerals.{add-one}
 use lib.ListN.{length, take, drop, getD, set, length-append}
 use lib.Seq.{sets, length-sets, sets-eq, take-suc, take-all}
+use Rattle.record.proofs.Lists.{sets-append}
 use Rattle.sheet_text.specs.Appends.{Appended}
-
-sets-append : (out : List ℕ) (at : ℕ) (a b : List ℕ) → sets (sets out at a) (at + length a) b ≡ sets out at (a ++ b)
-sets-append out at [] b = let e : at + 0 ≡ at = omega arith in rw e
-sets-append out at (x ∷ a) b =
-    let e : at + suc (length a) ≡ suc at + length a = omega arith in
-    ap (λ (n : ℕ). sets (sets (set out at x) (suc at) a) n b) e ∙ sets-append (set out at x) (suc at) a b
 
 pub appended-none : {out : List ℕ} {at r : ℕ} → r ≡ at → Appended 0 out out at [] r
 appended-none {out} {at} {r} e = record { short = omega arith; end = omega arith; is = refl }
@@ -30,7 +25,7 @@ pub _⨾_ : {p q : ℕ} {out mid out′ : List ℕ} {at m r : ℕ} {a b : List �
 _⨾_ {p} {q} {out} {mid} {out′} {at} {m} {r} {a} {b} v w = record {
   short = omega (arith, v .short, w .short, length-append a b);
   end = omega (arith, v .end, w .end, length-append a b);
-  is = w .is ∙ ap (λ (l : List ℕ). sets l m b) (v .is) ∙ ap (λ (n : ℕ). sets (sets out at a) n b) (v .end) ∙ sets-append out at a b;
+  is = w .is ∙ ap (λ (l : List ℕ). sets l m b) (v .is) ∙ ap (λ (n : ℕ). sets (sets out at a) n b) (v .end) ∙ sym (sets-append out at a b);
 }
 
 pub appended-length : {p : ℕ} {out out′ : List ℕ} {at r : ℕ} {a : List ℕ} → Appended p out out′ at a r → length out′ ≡ length out

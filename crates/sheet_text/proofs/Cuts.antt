@@ -14,7 +14,7 @@ use Rattle.rules.specs.declared.Verdict.{Verdict}
 use Rattle.rules.specs.declared.Verdict.the-variants.{Pass, Faulted}
 use Rattle.rules.specs.Reports.{passed}
 use Rattle.rules.specs.Checks.{checkCount}
-use Rattle.rules.proofs.Booleans.{and-left, and-right}
+use Rattle.record.proofs.Booleans.{and-left, and-right}
 use Rattle.sheet_text.specs.Sheets.{text, decimal, spaced, evidenceText, passLine, faultLine, lineOf, line, nameAt, linesTo, refusedText, lastLine}
 use Rattle.sheet_text.specs.Sheets.{sheetText, firstLine, afterLine, lineAt}
 use Rattle.sheet_text.proofs.Names.{worded, name-worded}

@@ -1,6 +1,6 @@
 -- The names of the checks: each fits its size and has no space, where each stands in the text of all names, and how it is written.
-use mathlib.Core.Path.{_≡_, refl, sym, ap, _∙_}
-use mathlib.Core.Bool.{Bool, true, false, _&&_}
+use mathlib.Core.Path.{_≡_, refl, ap, _∙_}
+use mathlib.Core.Bool.{Bool, true, _&&_}
 use mathlib.Core.List.{List, [], _∷_}
 use Prim.Native.Nat.{ℕ, zero, suc, _+_, _*_, _≤_, _<_}
 use native.Mathlib.Decide.{decLt}
@@ -9,7 +9,7 @@ use lib.ListN.{length, getD, take, set}
 use lib.Dec.{ltb, leb}
 use borrow.Author.Tests.{ltb-true, leb-true}
 use Rattle.rules.specs.Checks.{Check, checks, checkCount, checkAt}
-use Rattle.rules.proofs.Booleans.{and-left, and-right}
+use Rattle.record.proofs.Booleans.{and-left, and-right}
 use Rattle.rules.proofs.Checks.{check-at, allBy, every-by}
 use Rattle.sheet_text.specs.Sheets.{text, nameAt, nameSize}
 use Rattle.sheet_text.specs.Appends.{Appended}

@@ -8,7 +8,7 @@ use lib.Seq.{drop-cons, getD-drop, take-all, sets}
 use Rattle.rules.specs.declared.Opening.{Opening}
 use Rattle.rules.specs.declared.Report.{Report}
 use Rattle.rows.specs.Rows.{rowsSize, verdictIn, reportIn, reportsFrom, reportsIn, KindsFit}
-use Rattle.rows.proofs.Rows.{sets-front}
+use Rattle.record.proofs.Lists.{sets-front}
 use Rattle.rows.proofs.ReadBack.{rows-read}
 use Rattle.judge.specs.declared.state.Judge.{Judge}
 use Rattle.judge.specs.Traces.{judgeBy}

@@ -16,7 +16,7 @@ use Rattle.rules.specs.declared.Verdict.the-variants.{Pass, Faulted}
 use Rattle.rules.specs.History.{History}
 use Rattle.rules.specs.Reports.{passed, reportOf}
 use Rattle.rules.specs.Checks.{Check, checks, checkCount, caseAt, reportBy, reportsOf, Every}
-use Rattle.rules.proofs.Booleans.{and-left, and-right, both}
+use Rattle.record.proofs.Booleans.{and-left, and-right, both}
 use Rattle.rules.proofs.CaseKinds.{CaseKinds, case-kinds, VerdictWithin, report-kinds}
 use Rattle.rows.specs.Rows.{kindWord, rowsOf, reportsIn, KindsFit}
 use Rattle.rows.proofs.Rows.{length-rows}
@@ -25,7 +25,7 @@ use Rattle.intake.specs.Words.{Indexed}
 use Rattle.judge.specs.declared.state.Judge.{Judge}
 use Rattle.judge.specs.States.{State}
 use Rattle.judge.specs.Openings.{freshOf}
-use Rattle.judge.specs.Runs.{After}
+use Rattle.judge.specs.Pushes.{After}
 use Rattle.judge.proofs.Pushes.{reports-many, reports-back}
 use Rattle.state_words.specs.StateWords.{headerSize, stateSize, stateWords, judgeIn, isState, stateIn}
 use Rattle.state_words.proofs.Headers.{reports-rows, rows-kinds}

@@ -11,9 +11,10 @@ use lib.Dec.{eqb}
 use borrow.Author.Tests.{eqb-true, eq-eqb, ne-eqb}
 use Rattle.rules.specs.declared.Report.{Report}
 use Rattle.rules.specs.Checks.{checkCount}
-use Rattle.rules.proofs.Booleans.{never, and-left, and-right}
+use Rattle.record.proofs.Booleans.{never, and-left, and-right}
 use Rattle.rows.specs.Rows.{rowsSize, rowsOf, reportsIn, kindsFit}
-use Rattle.rows.proofs.Rows.{length-rows, sets-all}
+use Rattle.rows.proofs.Rows.{length-rows}
+use Rattle.record.proofs.Lists.{sets-all}
 use Rattle.rows.proofs.ReadBack.{kinds-fit}
 use Rattle.judge.specs.declared.state.Judge.{Judge}
 use Rattle.state_words.specs.StateWords.{headerSize, stateSize, stateWords, judgeIn, isState, stateIn, IsState}

@@ -10,7 +10,7 @@ use lib.Dec.{eqb}
 use borrow.Author.Tests.{ltb-true, ltb-false, eqb-true, eq-eqb}
 use Rattle.record.proofs.Numbers.{Bytes}
 use Rattle.rules.specs.Checks.{checkCount, checkAt}
-use Rattle.rules.proofs.Booleans.{never, and-right, both, or-left, or-right}
+use Rattle.record.proofs.Booleans.{never, and-right, both, or-left, or-right}
 use Rattle.judge.specs.declared.state.Judge.{Judge}
 use Rattle.tally.specs.declared.Entered.{Entered}
 use Rattle.tally.specs.declared.Refusal.{Refusal}

@@ -7,7 +7,7 @@ use native.Mathlib.Omega.{arith}
 use native.Mathlib.Decide.{decLt}
 use lib.Dec.{eqb, ltb}
 use borrow.Author.Tests.{ltb-true, lt-ltb, le-ltb}
-use Rattle.rules.proofs.Booleans.{and-left, and-right, both, or-left, or-right}
+use Rattle.record.proofs.Booleans.{and-left, and-right, both, or-left, or-right}
 use Rattle.tally.specs.Stored.{numberIn, allTo, clearFrom}
 use Rattle.tally.specs.Counts.{placeCount, recordOf, placeOf, usedPlaces, isUsed}
 use Rattle.tally.specs.Entries.{width}

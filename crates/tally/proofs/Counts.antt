@@ -13,9 +13,9 @@ use Rattle.rules.specs.declared.Verdict.{Verdict}
 use Rattle.rules.specs.declared.Verdict.the-variants.{Pass, Faulted}
 use Rattle.rules.specs.Reports.{passed}
 use Rattle.rules.specs.Checks.{Check, checks, checkCount, checkAt}
-use Rattle.rules.proofs.Booleans.{and-right, both}
+use Rattle.record.proofs.Booleans.{and-right, both}
 use Rattle.rules.proofs.Checks.{check-at, allBy, every-by}
-use Rattle.intake.specs.Refusals.{fitsBy}
+use Rattle.decision.specs.Refusals.{fitsBy}
 use Rattle.judge.specs.declared.state.Judge.{Judge}
 use Rattle.tally.specs.Stored.{allTo}
 use Rattle.tally.specs.Counts.{placeCount, recordOf, placeOf, verdictPlace, judgePlace, howMany, tracesAt, recordsTaken, numberAt}

@@ -9,8 +9,8 @@ use lib.ListN.{length, getD}
 use lib.Dec.{eqb, ltb}
 use borrow.Author.Tests.{ltb-true, eqb-true, eqb-false, not-true, not-false, lt-ltb, le-ltb, ne-eqb}
 use Rattle.rules.specs.Checks.{checkCount, checkAt}
-use Rattle.rules.proofs.Booleans.{and-left, and-right}
-use Rattle.intake.specs.Refusals.{fitsBy}
+use Rattle.record.proofs.Booleans.{and-left, and-right}
+use Rattle.decision.specs.Refusals.{fitsBy}
 use Rattle.judge.specs.declared.state.Judge.{Judge}
 use Rattle.tally.specs.declared.Entered.{Entered}
 use Rattle.tally.specs.Stored.{holds, stored, numberIn, allTo}

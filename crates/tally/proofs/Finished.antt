@@ -15,20 +15,21 @@ use Rattle.rules.specs.declared.Verdict.the-variants.{Pass, Faulted}
 use Rattle.rules.specs.History.{History}
 use Rattle.rules.specs.Reports.{passed, faulted, Right}
 use Rattle.rules.specs.Checks.{checkCount, checkAt, HasBy, caseAt, reportBy, reportsOf}
-use Rattle.rules.proofs.Booleans.{and-left, both}
+use Rattle.record.proofs.Booleans.{and-left, both}
 use Rattle.rules.proofs.CaseKinds.{CaseKinds, case-kinds, VerdictWithin, report-kinds}
 use Rattle.rules.proofs.Checks.{check-at, report-at}
 use Rattle.rules.proofs.Reports.{reportOf-passed}
 use Rattle.intake.specs.Words.{Indexed}
-use Rattle.intake.proofs.Suiting.{fits-by}
+use Rattle.decision.proofs.Suiting.{fits-by}
 use Rattle.judge.specs.declared.opening.Opened.{Opened}
 use Rattle.judge.specs.declared.state.Judge.{Judge}
-use Rattle.judge.specs.Calls.{Call, takenOf}
+use Rattle.demands.specs.Calls.{Call, takenOf}
 use Rattle.judge.specs.Openings.{Fits, freshOf, Opens}
-use Rattle.judge.specs.Runs.{After, Run, stateOf, reportAt}
+use Rattle.judge.specs.Pushes.{After, stateOf}
+use Rattle.demands.specs.Runs.{Run, reportAt}
 use Rattle.judge.specs.States.{State}
-use Rattle.judge.proofs.Demand2.{fitting}
-use Rattle.judge.proofs.Demand3.{Ran, opened-ran, demand3-of}
+use Rattle.demands.proofs.Demand2.{fitting}
+use Rattle.demands.proofs.Demand3.{Ran, opened-ran, demand3-of}
 use Rattle.tally.specs.declared.Entered.{Entered}
 use Rattle.tally.specs.Counts.{placeCount, verdictPlace, judgePlace, countAt}
 use Rattle.tally.specs.Entries.{tallySize, refusalNumber, isEntry, EntersBy}

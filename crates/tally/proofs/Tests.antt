@@ -4,7 +4,7 @@ use mathlib.Core.Bool.{Bool, true, false, _&&_}
 use Prim.Native.Nat.{ℕ, zero, suc, _+_, _≤_, _<_}
 use native.Mathlib.Omega.{arith}
 use native.Mathlib.Decide.{decLt, ℕ-discrete}
-use Rattle.rules.proofs.Booleans.{and-left, and-right, both}
+use Rattle.record.proofs.Booleans.{and-left, and-right, both}
 use Rattle.tally.specs.Stored.{allTo}
 
 pub all-none : (test : ℕ → Bool) → allTo 0 test ≡ true

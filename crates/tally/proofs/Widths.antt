@@ -2,16 +2,17 @@
 -- stored there. Assumes nothing.
 use mathlib.Core.Path.{_≡_, refl, sym, ap, _∙_}
 use mathlib.Core.Bool.{Bool, true, false, cond}
-use mathlib.Core.List.{List, [], _∷_, _++_, append-nil}
+use mathlib.Core.List.{List, _++_}
 use Prim.Native.Nat.{ℕ, zero, suc, _+_, _-_, _*_, _^_, _≤_, _<_}
 use native.Mathlib.Omega.{arith}
 use native.Mathlib.Nat.{mul-suc, mul-zero, mul-le-mul-left}
 use native.Mathlib.Decide.{decLt}
-use lib.ListN.{length, set, take, drop, replicate, length-append, length-drop, length-set, drop-of-length-le, replicate-append-replicate}
-use lib.Seq.{sets, sets-eq, set-append-left, take-append-le, drop-append-le, take-at, drop-at, take-all, take-add}
+use lib.ListN.{length, take, drop, replicate, length-append, length-drop, replicate-append-replicate}
+use lib.Seq.{sets, take-append-le, drop-append-le, drop-at, take-all, take-add}
 use lib.Dec.{eqb}
 use borrow.Author.Tests.{eq-eqb, ne-eqb}
 use Rattle.record.specs.Numbers.{part, littleEndian, bytesOf}
+use Rattle.record.proofs.Lists.{sets-left, sets-end}
 use Rattle.record.proofs.Numbers.{Bytes, length-part, bytes-part, number-below}
 use Rattle.record.proofs.Written.{bytes-length, bytes-read, read-bytes, zero-bytes}
 use Rattle.tally.specs.Stored.{stored, numberIn}
@@ -105,21 +106,6 @@ module _ (w : ℕ) where
   stored-back s n b e = stored-front s n b (omega arith) ∙ take-all (w * n) s (omega arith)
 
   -- ---- a number written to its place
-
-  sets-left : (xs ys : List ℕ) (i : ℕ) (vs : List ℕ) → i + length vs ≤ length xs → sets (xs ++ ys) i vs ≡ sets xs i vs ++ ys
-  sets-left xs ys i [] h = refl
-  sets-left xs ys i (v ∷ vs) h =
-      let n = length-set xs i v in
-      ap (λ (l : List ℕ). sets l (suc i) vs) (set-append-left xs ys i v (omega arith)) ∙ sets-left (set xs i v) ys (suc i) vs (omega arith)
-
-  sets-end : (xs ys vs : List ℕ) (i : ℕ) → length xs ≡ i → length ys ≡ length vs → sets (xs ++ ys) i vs ≡ xs ++ vs
-  sets-end xs ys vs i e f =
-      let n = length-append xs ys in
-      let d : drop (i + length vs) (xs ++ ys) ≡ [] = drop-of-length-le (xs ++ ys) {i = i + length vs} (omega arith) in
-      sets-eq vs (xs ++ ys) i (omega arith)
-      ∙ ap (λ (t : List ℕ). t ++ vs ++ drop (i + length vs) (xs ++ ys)) (take-at xs ys i e)
-      ∙ ap (λ (t : List ℕ). xs ++ vs ++ t) d
-      ∙ append-nil (xs ++ vs)
 
   -- the numbers with m at place p
   abbrev pub placed : ℕ → ℕ → (ℕ → ℕ) → ℕ → ℕ

@@ -6,7 +6,7 @@ use Prim.Native.Nat.{ℕ, _+_, _*_}
 use lib.ListN.{length}
 use lib.Dec.{eqb, ltb}
 use Rattle.rules.specs.Checks.{checkCount}
-use Rattle.intake.specs.Refusals.{fitsBy}
+use Rattle.decision.specs.Refusals.{fitsBy}
 use Rattle.judge.specs.declared.state.Judge.{Judge}
 use Rattle.tally.specs.declared.Refusal.{Refusal}
 use Rattle.tally.specs.declared.Refusal.the-variants.{Nothing, Unfit, Unused, Full}

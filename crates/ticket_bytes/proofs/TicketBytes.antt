@@ -10,7 +10,7 @@ use lib.Dec.{eqb}
 use borrow.Author.Tests.{leb-true, lt-leb, le-leb}
 use Rattle.record.specs.Numbers.{littleEndian, bytesOf}
 use Rattle.record.proofs.Written.{bytes-length, bytes-read}
-use Rattle.rules.proofs.Booleans.{and-left}
+use Rattle.record.proofs.Booleans.{and-left}
 use Rattle.ticket_bytes.specs.TicketBytes.{countSize, ticketSize, ticketBytes, hasCount, countIn, recordIn, isCurrent}
 
 pub ticket-length : (count : ℕ) (rec : List ℕ) → length (ticketBytes count rec) ≡ countSize + length rec

@@ -10,7 +10,7 @@ use Rattle.history.proofs.Chains.{Stands, stands-first, stands-next}
 use Rattle.history.proofs.Logs.{record-bytes, record-length}
 use Rattle.history.specs.Buckets.{bucketByTwo}
 use Rattle.history.specs.Logs.{hist}
-use Rattle.descriptors.specs.Index.{DescriptorsIndexed, appliedBucket}
+use Rattle.descriptors.specs.Columns.{DescriptorsIndexed, appliedBucket}
 use Rattle.descriptors.proofs.Walks.{applied-skip, applied-hit, applied-miss, applied-end}
 use Rattle.descriptors.proofs.role.applied_of.Statement.{statement}
 use Rattle.descriptors.proofs.role.applied_of.Tie as tie
@@ -27,15 +27,15 @@ abbrev μ-loop : tie.MeasureT-loop
 bucket-by-two-requires : tie.Need-bucket-by-two-requires Inv-loop μ-loop
 bucket-by-two-requires c κs = search needs
 
-link-requires : tie.Need-link-requires Inv-loop μ-loop
-link-requires c κs = search needs
+applied-top-requires : tie.Need-applied-top-requires Inv-loop μ-loop
+applied-top-requires c κs = search needs
 
 loop-holds : tie.Need-loop-holds Inv-loop μ-loop
 loop-holds c = let a = c .before .before .before .before .args in (
-  c .link .ensures .0,
+  c .applied-top .ensures .0,
   λ k.
       stands-first (λ n. applied (a .id) (a .range) (hist (a .log .now) n)) (applied-skip (a .cap) (a .id) (a .range) (a .log .now)) (k .applied)
-      (omega (arith, c .before .bucket-by-two .ensures)) (refl) (omega (arith, c .before .bucket-by-two .ensures)) (c .link .ensures .1),
+      (omega (arith, c .before .bucket-by-two .ensures)) (refl) (omega (arith, c .before .bucket-by-two .ensures)) (c .applied-top .ensures .1),
 )
 
 sub-i : tie.Need-sub-i Inv-loop μ-loop
@@ -60,11 +60,8 @@ returns c = let a = c .before .before .before .before .before .before .before .b
     (c .before .before .before .is-applied .ensures) (c .before .before .if1 .taken)
     (c .b .ensures ∙ ap (λ (x : TraceRecord). x .b) (record-bytes (a .log .now) (l .i - 1) (c .before .record-at2 .ensures))))
 
-add-link : tie.Need-add-link Inv-loop μ-loop
-add-link c = search needs
-
-link-requires-2 : tie.Need-link-requires-2 Inv-loop μ-loop
-link-requires-2 c κs = search needs
+applied-below-requires : tie.Need-applied-below-requires Inv-loop μ-loop
+applied-below-requires c κs = search needs
 
 loop-less : tie.Need-loop-less Inv-loop μ-loop
 loop-less c = search needs
@@ -72,13 +69,13 @@ loop-less c = search needs
 loop-again : tie.Need-loop-again Inv-loop μ-loop
 loop-again c = let a = c .before .before .before .before .before .before .before .before .before .before .args in
     let l = c .before .before .before .before .before .loop in (
-      omega (arith, c .link2 .ensures .0),
+      omega (arith, c .applied-below .ensures .0),
       λ k.
           stands-next (λ n. applied (a .id) (a .range) (hist (a .log .now) n)) (applied-skip (a .cap) (a .id) (a .range) (a .log .now)) (k .applied)
           (omega arith) (omega arith) (l .inv .1 k .here (omega arith))
           (l .inv .1 k .same ∙ applied-miss (a .id) (a .range) (a .log .now) (l .i) (omega arith) (c .before .before .before .record-at .ensures)
           (c .before .before .is-applied .ensures) (c .before .if1 .left))
-          (omega arith) (c .link2 .ensures .1),
+          (omega arith) (c .applied-below .ensures .1),
     )
 
 returns-2 : tie.Need-returns-2 Inv-loop μ-loop
@@ -92,7 +89,7 @@ applied-of-spec =
     Inv-loop
     μ-loop
     bucket-by-two-requires
-    link-requires
+    applied-top-requires
     loop-holds
     sub-i
     record-at-requires
@@ -100,8 +97,7 @@ applied-of-spec =
     record-at-requires-2
     b-requires
     returns
-    add-link
-    link-requires-2
+    applied-below-requires
     loop-less
     loop-again
     returns-2)

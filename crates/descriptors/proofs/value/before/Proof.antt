@@ -3,13 +3,13 @@ use mathlib.Core.Path.{sym, ap, _∙_}
 use native.Mathlib.Omega.{arith}
 use borrow.Author.Needs.{needs}
 use Rattle.history.specs.Logs.{hist}
+use Rattle.rules.proofs.LookUps.{before-at, before-zero}
 use Rattle.descriptors.specs.Answers.{foundBy}
-use Rattle.descriptors.proofs.Found.{before-none, before-at}
 use Rattle.descriptors.proofs.value.before.Statement.{statement}
 use Rattle.descriptors.proofs.value.before.Tie as tie
 
 returns : tie.Need-returns
-returns c = let a = c .before .before .before .args in λ k. sym (ap foundBy (before-none (a .range) (a .index) (hist (a .log .now) (a .count)) (c .if1 .taken)))
+returns c = let a = c .before .before .before .args in λ k. sym (ap foundBy (before-zero (a .range) (a .index) (hist (a .log .now) (a .count)) (c .if1 .taken)))
 
 sub-at : tie.Need-sub-at
 sub-at c = search needs

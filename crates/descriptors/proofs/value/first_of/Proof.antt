@@ -8,7 +8,7 @@ use Rattle.history.proofs.Chains.{Stands, stands-first, stands-next}
 use Rattle.history.proofs.Logs.{record-length}
 use Rattle.history.specs.Buckets.{bucketByTwo}
 use Rattle.history.specs.Logs.{hist}
-use Rattle.descriptors.specs.Index.{DescriptorsIndexed, generationBucket}
+use Rattle.descriptors.specs.Columns.{DescriptorsIndexed, generationBucket}
 use Rattle.descriptors.proofs.Walks.{generation-skip, generation-hit, generation-miss, generation-end, of-is}
 use Rattle.descriptors.proofs.value.first_of.Statement.{statement}
 use Rattle.descriptors.proofs.value.first_of.Tie as tie
@@ -23,24 +23,18 @@ Inv-loop log work count cap range generation i₀ i =
 abbrev μ-loop : tie.MeasureT-loop
 μ-loop log work count cap range generation i₀ i = i
 
-mul-link : tie.Need-mul-link Inv-loop μ-loop
-mul-link c = search needs
-
 bucket-by-two-requires : tie.Need-bucket-by-two-requires Inv-loop μ-loop
 bucket-by-two-requires c κs = search needs
 
-add-link : tie.Need-add-link Inv-loop μ-loop
-add-link c = search needs
-
-link-requires : tie.Need-link-requires Inv-loop μ-loop
-link-requires c κs = search needs
+generation-top-requires : tie.Need-generation-top-requires Inv-loop μ-loop
+generation-top-requires c κs = search needs
 
 loop-holds : tie.Need-loop-holds Inv-loop μ-loop
 loop-holds c = let a = c .before .before .before .before .args in (
-  c .link .ensures .0,
+  c .generation-top .ensures .0,
   λ k.
       stands-first (λ n. firstAtGeneration (a .range) (a .generation) (hist (a .log .now) n)) (generation-skip (a .cap) (a .range) (a .generation) (a .log .now)) (k .generation)
-      (omega (arith, c .before .bucket-by-two .ensures)) (refl) (omega (arith, c .before .bucket-by-two .ensures)) (c .link .ensures .1),
+      (omega (arith, c .before .bucket-by-two .ensures)) (refl) (omega (arith, c .before .bucket-by-two .ensures)) (c .generation-top .ensures .1),
 )
 
 sub-i : tie.Need-sub-i Inv-loop μ-loop
@@ -64,14 +58,8 @@ returns c = let a = c .before .before .before .before .before .before .before .b
           (of-is (a .log .now) (l .i - 1) (c .before .before .record-at .ensures) (a .range) (a .generation) (c .before .is-of .ensures)) (c .if1 .taken)),
     )
 
-mul-link-2 : tie.Need-mul-link-2 Inv-loop μ-loop
-mul-link-2 c = search needs
-
-add-link-2 : tie.Need-add-link-2 Inv-loop μ-loop
-add-link-2 c = search needs
-
-link-requires-2 : tie.Need-link-requires-2 Inv-loop μ-loop
-link-requires-2 c κs = search needs
+generation-below-requires : tie.Need-generation-below-requires Inv-loop μ-loop
+generation-below-requires c κs = search needs
 
 loop-less : tie.Need-loop-less Inv-loop μ-loop
 loop-less c = search needs
@@ -79,13 +67,13 @@ loop-less c = search needs
 loop-again : tie.Need-loop-again Inv-loop μ-loop
 loop-again c = let a = c .before .before .before .before .before .before .before .before .before .before .args in
     let l = c .before .before .before .before .before .loop in (
-      omega (arith, c .link2 .ensures .0),
+      omega (arith, c .generation-below .ensures .0),
       λ k.
           stands-next (λ n. firstAtGeneration (a .range) (a .generation) (hist (a .log .now) n)) (generation-skip (a .cap) (a .range) (a .generation) (a .log .now)) (k .generation)
           (omega arith) (omega arith) (l .inv .1 k .here (omega arith))
           (l .inv .1 k .same ∙ generation-miss (a .cap) (a .range) (a .generation) (a .log .now) (l .i) (omega arith) (l .inv .1 k .here (omega arith))
           (of-is (a .log .now) (l .i - 1) (c .before .before .before .record-at .ensures) (a .range) (a .generation) (c .before .before .is-of .ensures)) (c .before .if1 .left))
-          (omega arith) (c .link2 .ensures .1),
+          (omega arith) (c .generation-below .ensures .1),
     )
 
 returns-2 : tie.Need-returns-2 Inv-loop μ-loop
@@ -98,19 +86,15 @@ first-of-spec =
     (tie.spec
     Inv-loop
     μ-loop
-    mul-link
     bucket-by-two-requires
-    add-link
-    link-requires
+    generation-top-requires
     loop-holds
     sub-i
     record-at-requires
     is-of-requires
     add-result
     returns
-    mul-link-2
-    add-link-2
-    link-requires-2
+    generation-below-requires
     loop-less
     loop-again
     returns-2)

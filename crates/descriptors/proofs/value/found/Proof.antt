@@ -1,5 +1,5 @@
 -- A number that is 0 is none.
-use Rattle.descriptors.proofs.Found.{found-some}
+use Rattle.rules.proofs.Answers.{found-some}
 use Rattle.descriptors.proofs.value.found.Statement.{statement}
 use Rattle.descriptors.proofs.value.found.Tie as tie
 

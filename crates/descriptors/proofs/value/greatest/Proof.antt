@@ -11,7 +11,7 @@ use Rattle.history.proofs.Queries.{greater-none}
 use Rattle.history.specs.Buckets.{bucketBy}
 use Rattle.history.specs.Logs.{hist}
 use Rattle.descriptors.specs.Answers.{upTo, greatestUpTo}
-use Rattle.descriptors.specs.Index.{DescriptorsIndexed, standingBucket}
+use Rattle.descriptors.specs.Columns.{DescriptorsIndexed, standingBucket}
 use Rattle.descriptors.proofs.Rising.{greatest-stop}
 use Rattle.descriptors.proofs.Walks.{Greatest, greatest-skip, greatest-next, greatest-done, up-to-is, up-to-range}
 use Rattle.descriptors.proofs.value.greatest.Statement.{statement}
@@ -27,26 +27,20 @@ Inv-loop log work count cap range free index any generation best₀ i₀ best i 
 abbrev μ-loop : tie.MeasureT-loop
 μ-loop log work count cap range free index any generation best₀ i₀ best i = i
 
-mul-link : tie.Need-mul-link Inv-loop μ-loop
-mul-link c = search needs
-
 bucket-by-requires : tie.Need-bucket-by-requires Inv-loop μ-loop
 bucket-by-requires c κs = search needs
 
-add-link : tie.Need-add-link Inv-loop μ-loop
-add-link c = search needs
-
-link-requires : tie.Need-link-requires Inv-loop μ-loop
-link-requires c κs = search needs
+standing-top-requires : tie.Need-standing-top-requires Inv-loop μ-loop
+standing-top-requires c κs = search needs
 
 loop-holds : tie.Need-loop-holds Inv-loop μ-loop
 loop-holds c = let a = c .before .before .before .before .args in (
-  c .link .ensures .0,
+  c .standing-top .ensures .0,
   (
     omega arith,
     λ k.
         stands-first (Greatest (a .cap) (a .range) (a .log .now) (upTo (a .range) (a .free) (a .index) (a .any) (a .generation)) 0) (greatest-skip (a .cap) (a .range) (a .log .now) (upTo (a .range) (a .free) (a .index) (a .any) (a .generation)) (up-to-range (a .range) (a .free) (a .index) (a .any) (a .generation)) 0) (k .standing)
-        (omega (arith, c .before .bucket-by .ensures)) (sym (greater-none (λ v. v .index) _)) (omega (arith, c .before .bucket-by .ensures)) (c .link .ensures .1),
+        (omega (arith, c .before .bucket-by .ensures)) (sym (greater-none (λ v. v .index) _)) (omega (arith, c .before .bucket-by .ensures)) (c .standing-top .ensures .1),
   ),
 )
 
@@ -78,14 +72,8 @@ returns c = let a = c .before .before .before .before .before .before .before .b
           (l .inv .1 .1 k .same) (up-to-is (a .log .now) (l .i - 1) (c .before .before .before .before .record-at .ensures) (a .range) (a .free) (a .index) (a .any) (a .generation) (c .before .before .before .is-up-to .ensures)) (c .before .before .greater .ensures .0)),
     )
 
-mul-link-2 : tie.Need-mul-link-2 Inv-loop μ-loop
-mul-link-2 c = search needs
-
-add-link-2 : tie.Need-add-link-2 Inv-loop μ-loop
-add-link-2 c = search needs
-
-link-requires-2 : tie.Need-link-requires-2 Inv-loop μ-loop
-link-requires-2 c κs = search needs
+standing-below-requires : tie.Need-standing-below-requires Inv-loop μ-loop
+standing-below-requires c κs = search needs
 
 loop-less : tie.Need-loop-less Inv-loop μ-loop
 loop-less c = search needs
@@ -93,7 +81,7 @@ loop-less c = search needs
 loop-again : tie.Need-loop-again Inv-loop μ-loop
 loop-again c = let a = c .before .before .before .before .before .before .before .before .before .before .before .before .args in
     let l = c .before .before .before .before .before .before .before .loop in (
-      omega (arith, c .link2 .ensures .0),
+      omega (arith, c .standing-below .ensures .0),
       (
         c .before .before .before .greater .ensures .1 _ (omega arith) (omega arith),
         λ k.
@@ -101,7 +89,7 @@ loop-again c = let a = c .before .before .before .before .before .before .before
             (omega arith) (omega arith) (l .inv .1 .1 k .here (omega arith))
             (greatest-next (a .cap) (a .range) (a .log .now) (upTo (a .range) (a .free) (a .index) (a .any) (a .generation)) (l .best) (c .before .before .before .greater .result) (l .i) (omega arith) (l .inv .1 .1 k .here (omega arith))
             (l .inv .1 .1 k .same) (up-to-is (a .log .now) (l .i - 1) (c .before .before .before .before .before .record-at .ensures) (a .range) (a .free) (a .index) (a .any) (a .generation) (c .before .before .before .before .is-up-to .ensures)) (c .before .before .before .greater .ensures .0))
-            (omega arith) (c .link2 .ensures .1),
+            (omega arith) (c .standing-below .ensures .1),
       ),
     )
 
@@ -116,10 +104,8 @@ greatest-spec =
     (tie.spec
     Inv-loop
     μ-loop
-    mul-link
     bucket-by-requires
-    add-link
-    link-requires
+    standing-top-requires
     loop-holds
     sub-i
     record-at-requires
@@ -127,9 +113,7 @@ greatest-spec =
     greater-requires
     is-rising-requires
     returns
-    mul-link-2
-    add-link-2
-    link-requires-2
+    standing-below-requires
     loop-less
     loop-again
     returns-2)

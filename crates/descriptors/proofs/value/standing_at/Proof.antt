@@ -11,7 +11,7 @@ use Rattle.history.proofs.Logs.{record-length}
 use Rattle.history.specs.Buckets.{bucketBy}
 use Rattle.history.specs.Logs.{hist}
 use Rattle.descriptors.specs.Answers.{atPlace}
-use Rattle.descriptors.specs.Index.{DescriptorsIndexed, standingBucket}
+use Rattle.descriptors.specs.Columns.{DescriptorsIndexed, standingBucket}
 use Rattle.descriptors.proofs.Rising.{place-stop}
 use Rattle.descriptors.proofs.Walks.{place-skip, place-hit, place-miss, place-end, at-is}
 use Rattle.descriptors.proofs.value.standing_at.Statement.{statement}
@@ -27,24 +27,18 @@ Inv-loop log work count cap range index i₀ i =
 abbrev μ-loop : tie.MeasureT-loop
 μ-loop log work count cap range index i₀ i = i
 
-mul-link : tie.Need-mul-link Inv-loop μ-loop
-mul-link c = search needs
-
 bucket-by-requires : tie.Need-bucket-by-requires Inv-loop μ-loop
 bucket-by-requires c κs = search needs
 
-add-link : tie.Need-add-link Inv-loop μ-loop
-add-link c = search needs
-
-link-requires : tie.Need-link-requires Inv-loop μ-loop
-link-requires c κs = search needs
+standing-top-requires : tie.Need-standing-top-requires Inv-loop μ-loop
+standing-top-requires c κs = search needs
 
 loop-holds : tie.Need-loop-holds Inv-loop μ-loop
 loop-holds c = let a = c .before .before .before .before .args in (
-  c .link .ensures .0,
+  c .standing-top .ensures .0,
   λ k.
       stands-first (λ n. latestOf (atPlace (a .range) (a .index)) (standing (hist (a .log .now) n))) (place-skip (a .cap) (a .range) (a .index) (a .log .now)) (k .standing)
-      (omega (arith, c .before .bucket-by .ensures)) (refl) (omega (arith, c .before .bucket-by .ensures)) (c .link .ensures .1),
+      (omega (arith, c .before .bucket-by .ensures)) (refl) (omega (arith, c .before .bucket-by .ensures)) (c .standing-top .ensures .1),
 )
 
 sub-i : tie.Need-sub-i Inv-loop μ-loop
@@ -82,14 +76,8 @@ returns-2 c = let a = c .before .before .before .before .before .before .before 
           (a .range) (a .index) (c .before .rest-below .ensures) (c .if2 .taken)),
     )
 
-mul-link-2 : tie.Need-mul-link-2 Inv-loop μ-loop
-mul-link-2 c = search needs
-
-add-link-2 : tie.Need-add-link-2 Inv-loop μ-loop
-add-link-2 c = search needs
-
-link-requires-2 : tie.Need-link-requires-2 Inv-loop μ-loop
-link-requires-2 c κs = search needs
+standing-below-requires : tie.Need-standing-below-requires Inv-loop μ-loop
+standing-below-requires c κs = search needs
 
 loop-less : tie.Need-loop-less Inv-loop μ-loop
 loop-less c = search needs
@@ -97,13 +85,13 @@ loop-less c = search needs
 loop-again : tie.Need-loop-again Inv-loop μ-loop
 loop-again c = let a = c .before .before .before .before .before .before .before .before .before .before .before .before .args in
     let l = c .before .before .before .before .before .before .before .loop in (
-      omega (arith, c .link2 .ensures .0),
+      omega (arith, c .standing-below .ensures .0),
       λ k.
           stands-next (λ n. latestOf (atPlace (a .range) (a .index)) (standing (hist (a .log .now) n))) (place-skip (a .cap) (a .range) (a .index) (a .log .now)) (k .standing)
           (omega arith) (omega arith) (l .inv .1 k .here (omega arith))
           (l .inv .1 k .same ∙ place-miss (a .cap) (a .range) (a .index) (a .log .now) (l .i) (omega arith) (l .inv .1 k .here (omega arith))
           (at-is (a .log .now) (l .i - 1) (c .before .before .before .before .before .record-at .ensures) (a .range) (a .index) (c .before .before .before .before .is-at .ensures)) (c .before .before .before .if1 .left))
-          (omega arith) (c .link2 .ensures .1),
+          (omega arith) (c .standing-below .ensures .1),
     )
 
 returns-3 : tie.Need-returns-3 Inv-loop μ-loop
@@ -116,10 +104,8 @@ standing-at-spec =
     (tie.spec
     Inv-loop
     μ-loop
-    mul-link
     bucket-by-requires
-    add-link
-    link-requires
+    standing-top-requires
     loop-holds
     sub-i
     record-at-requires
@@ -128,9 +114,7 @@ standing-at-spec =
     returns
     rest-below-requires
     returns-2
-    mul-link-2
-    add-link-2
-    link-requires-2
+    standing-below-requires
     loop-less
     loop-again
     returns-3)

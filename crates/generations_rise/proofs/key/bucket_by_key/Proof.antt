@@ -4,7 +4,7 @@ use mathlib.Core.List.{List}
 use Prim.Native.Nat.{ℕ}
 use lib.ListN.{length}
 use Rattle.history.specs.Buckets.{bucketByTwo}
-use Rattle.generations_rise.specs.Writes.{keyNumber, bucketByKey}
+use Rattle.generations_rise.specs.Columns.{keyNumber, bucketByKey}
 use borrow.Author.Needs.{needs}
 use Rattle.generations_rise.proofs.key.bucket_by_key.Statement.{statement}
 use Rattle.generations_rise.proofs.key.bucket_by_key.Tie as tie

@@ -3,7 +3,7 @@ use mathlib.Core.Path.{_≡_, refl, sym, ap}
 use Prim.Native.Nat.{ℕ, _-_, _≤_}
 use native.Mathlib.Omega.{arith}
 use lib.ListN.{length, drop}
-use Rattle.generations_rise.specs.Writes.{rolledAll, keyNumber}
+use Rattle.generations_rise.specs.Columns.{rolledAll, keyNumber}
 use Rattle.generations_rise.proofs.KeyWrites.{rolled-next, rolled-end}
 use borrow.Author.Needs.{needs}
 use Rattle.generations_rise.proofs.key.key_number.Statement.{statement}

@@ -2,8 +2,9 @@
 use mathlib.Core.Path.{refl, sym, _∙_}
 use borrow.Author.Tests.{not-true, not-false}
 use Rattle.record.specs.Records.{decode}
-use Rattle.generations_rise.proofs.Rising.{clash}
-use Rattle.generations_rise.proofs.Writes.{as-none, as-known, as-found, not-apply}
+use Rattle.record.proofs.Booleans.{never}
+use Rattle.generations_rise.proofs.Writes.{as-none, as-known, as-found}
+use Rattle.rules.proofs.Writes.{not-apply}
 use borrow.Author.Needs.{needs}
 use Rattle.generations_rise.proofs.write.counts_as.Statement.{statement}
 use Rattle.generations_rise.proofs.write.counts_as.Tie as tie
@@ -28,8 +29,10 @@ is-counted-requires c κs = search needs
 returns-2 : tie.Need-returns-2
 returns-2 c =
     let l = c .before .before .before .before in
-    let e = sym (l .before .is-write .ensures) ∙ not-false _ (l .if1 .left) in
-    (λ z. refl, λ k j. as-known _ _ (c .before .before .before .a .ensures) (c .before .before .b .ensures) e (c .before .is-counted .ensures k) (c .if2 .taken))
+    let e = sym (l .before .is-write .ensures) ∙ not-false _ (l .if1 .left) in (
+      λ z. refl,
+      λ k j. as-known _ _ (c .before .before .before .a .ensures) (c .before .before .b .ensures) e (c .before .is-counted .ensures k) (c .if2 .taken),
+    )
 
 before-requires : tie.Need-before-requires
 before-requires c κs = search needs
@@ -41,8 +44,10 @@ returns-3 : tie.Need-returns-3
 returns-3 c =
     let l = c .before .before .before .before .before .before in
     let e = sym (l .before .is-write .ensures) ∙ not-false _ (l .if1 .left) in (
-      λ z. clash e (not-apply (decode (l .before .before .before .before .before .args .rec .now)) z),
-      λ k j. as-found _ _ _ (c .before .before .before .before .before .a .ensures) (c .before .before .before .before .b .ensures) e (c .before .before .before .is-counted .ensures k) (c .before .before .if2 .left)
+      λ z. never e (not-apply (decode (l .before .before .before .before .before .args .rec .now)) z),
+      λ k j. as-found _ _ _ (c .before .before .before .before .before .a .ensures) (c .before .before .before .before .b .ensures) e
+          (c .before .before .before .is-counted .ensures k)
+          (c .before .before .if2 .left)
           (c .before .before2 .ensures j)
           (c .generation-of .ensures),
     )

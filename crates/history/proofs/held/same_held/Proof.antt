@@ -4,7 +4,7 @@ use mathlib.Core.Path.{_≡_, sym, _∙_}
 use borrow.Author.Needs.{needs}
 use Rattle.record.specs.Records.{decode}
 use Rattle.rules.specs.Descriptors.{heldBy}
-use Rattle.rules.proofs.Booleans.{means}
+use Rattle.record.proofs.Booleans.{means}
 use Rattle.rules.proofs.Same.{held-exactly, other-generation, one-generation}
 use Rattle.history.proofs.held.same_held.Statement.{statement}
 use Rattle.history.proofs.held.same_held.Tie as tie

@@ -6,7 +6,7 @@ use Rattle.record.specs.Keys.{Key, keyEqb, listEqb}
 use Rattle.record.specs.Records.{decode}
 use Rattle.record.proofs.Records.{decode-voters}
 use Rattle.rules.specs.Descriptors.{Held, heldBy, namedEqb}
-use Rattle.rules.proofs.Booleans.{means}
+use Rattle.record.proofs.Booleans.{means}
 use Rattle.rules.proofs.Same.{named-exactly}
 use Rattle.history.proofs.held.same_named.Statement.{statement}
 use Rattle.history.proofs.held.same_named.Tie as tie

@@ -2,7 +2,7 @@
 use mathlib.Core.Path.{sym}
 use native.Mathlib.Omega.{arith}
 use Rattle.record.proofs.Records.{span-end}
-use Rattle.history.proofs.Spans.{end-lacking}
+use Rattle.rules.proofs.Spans.{end-lacking}
 use borrow.Author.Needs.{needs}
 use Rattle.history.proofs.span.end_of.Statement.{statement}
 use Rattle.history.proofs.span.end_of.Tie as tie

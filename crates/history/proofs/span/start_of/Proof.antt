@@ -2,7 +2,7 @@
 use mathlib.Core.Path.{sym}
 use native.Mathlib.Omega.{arith}
 use Rattle.record.proofs.Records.{span-start}
-use Rattle.history.proofs.Spans.{start-lacking}
+use Rattle.rules.proofs.Spans.{start-lacking}
 use borrow.Author.Needs.{needs}
 use Rattle.history.proofs.span.start_of.Statement.{statement}
 use Rattle.history.proofs.span.start_of.Tie as tie

@@ -8,9 +8,9 @@ use Rattle.rules.specs.IdsUnique.{blocksOf}
 use Rattle.history.specs.Logs.{hist}
 use Rattle.history.proofs.Logs.{record-length}
 use Rattle.history.proofs.Chains.{Stands}
-use Rattle.ids_unique.specs.Blocks.{IdsIndexed, blockBucket}
+use Rattle.ids_unique.specs.Columns.{IdsIndexed, blockBucket}
 use Rattle.ids_unique.specs.Sharing.{weighAll}
-use Rattle.ids_unique.proofs.Firsts.{read-at}
+use Rattle.firsts.proofs.Grants.{read-at}
 use Rattle.ids_unique.proofs.Blocks.{blocks-skip, block-stands}
 use Rattle.ids_unique.proofs.Sharing.{share-turn, share-end}
 use borrow.Author.Needs.{needs}

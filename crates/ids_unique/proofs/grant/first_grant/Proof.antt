@@ -1,5 +1,5 @@
 -- The number found, as an answer.
-use Rattle.ids_unique.proofs.Firsts.{found-none, found-at}
+use Rattle.rules.proofs.Answers.{found-none, found-at}
 use borrow.Author.Needs.{needs}
 use Rattle.ids_unique.proofs.grant.first_grant.Statement.{statement}
 use Rattle.ids_unique.proofs.grant.first_grant.Tie as tie

@@ -16,33 +16,22 @@ e-requires c κs = search needs
 mark-requires : tie.Need-mark-requires
 mark-requires c κs = search needs
 
-mul-enter : tie.Need-mul-enter
-mul-enter c = search needs
-
-mul-enter-2 : tie.Need-mul-enter-2
-mul-enter-2 c = search needs
-
-b-requires : tie.Need-b-requires
-b-requires c κs = search needs
-
-bucket-by-requires : tie.Need-bucket-by-requires
-bucket-by-requires c κs = search needs
-
-enter-requires : tie.Need-enter-requires
-enter-requires c κs = search needs
+enter-grant-requires : tie.Need-enter-grant-requires
+enter-grant-requires c κs = search needs
 
 same-length : tie.Need-same-length
 same-length c = search needs
 
 returns : tie.Need-returns
 returns c =
-    let f = c .before .before .before .before .before .before in
+    let f = c .before .before .before .before in
     let m = f .before .before .before in
     let i = m .before .before .before .before in
     let p = i .before .before .before .before .before in
-    let g = c .before .before .before .bucket-by .ensures in
-    noted-first _ _ (p .pre .1 .0) (m .before .e .ensures) (m .before .before .is-full .ensures) (i .is-first .ensures .0) (i .is-first .ensures .1) (m .mark .ensures)
-    (f .if1 .taken) (rw (← c .before .before .before .before .b .ensures) (g .0)) (g .1) (c .before .before .enter .ensures)
+    noted-first _ _ (p .pre .1 .0) (m .before .e .ensures) (m .before .before .is-full .ensures) (i .is-first .ensures .0) (i .is-first .ensures .1)
+    (m .mark .ensures)
+    (f .if1 .taken)
+    (c .before .before .enter-grant .ensures)
 
 same-length-2 : tie.Need-same-length-2
 same-length-2 c = search needs
@@ -52,7 +41,9 @@ returns-2 c =
     let m = c .before .before .before in
     let i = m .before .before .before .before in
     let p = i .before .before .before .before .before in
-    noted-other _ _ (p .pre .1 .0) (m .before .e .ensures) (m .before .before .is-full .ensures) (i .is-first .ensures .0) (i .is-first .ensures .1) (m .mark .ensures) (c .if1 .left)
+    noted-other _ _ (p .pre .1 .0) (m .before .e .ensures) (m .before .before .is-full .ensures) (i .is-first .ensures .0) (i .is-first .ensures .1)
+    (m .mark .ensures)
+    (c .if1 .left)
 
 pub note-spec : {M : Type 1} → statement M
 note-spec =
@@ -62,11 +53,7 @@ note-spec =
     is-full-requires
     e-requires
     mark-requires
-    mul-enter
-    mul-enter-2
-    b-requires
-    bucket-by-requires
-    enter-requires
+    enter-grant-requires
     same-length
     returns
     same-length-2

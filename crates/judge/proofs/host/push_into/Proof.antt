@@ -42,7 +42,7 @@ use denote.Triple.Table.{entered, cited}
 use denote.Triple.Walked.{says, Stays, stay-ref, gave-slice, stay-none-slice, walkOf, goes-ref, goes-gave-slice, goes-none-slice, Walks, ends-at, walked, walk-meets}
 use denote.Exit.{yes}
 use denote.Signature.{plain}
-use Rattle.judge.specs.Runs.{PushedBy}
+use Rattle.judge.specs.Pushes.{PushedBy}
 use Rattle.judge.specs.declared.state.Judge.{Judge}
 use Rattle.judge.specs.declared.push.Pushed.{Pushed}
 use Rattle.judge.specs.declared.state.Refusal.{Refusal}

@@ -10,12 +10,12 @@ use Rattle.record.specs.Records.{decode}
 use Rattle.rules.specs.declared.Opening.{Opening}
 use Rattle.rows.specs.Rows.{KindsFit}
 use Rattle.events.specs.Numbers.{eventIn}
-use Rattle.intake.specs.Refusals.{PushNumber}
+use Rattle.decision.specs.Refusals.{PushNumber}
 use Rattle.intake.specs.Takes.{Keepable, KeptIn}
-use Rattle.intake.proofs.Decisions.{push-number}
+use Rattle.decision.proofs.Decisions.{push-number}
 use Rattle.intake.proofs.Takes.{takes-off, takes-on, keepable}
 use Rattle.judge.specs.States.{State}
-use Rattle.judge.specs.Runs.{stateOf}
+use Rattle.judge.specs.Pushes.{stateOf}
 use Rattle.judge.specs.Traces.{Feeds, ends, judgeBy}
 use Rattle.judge.proofs.Traces.{record-part, record-rest, feeds-on, feeds-off}
 use Rattle.judge.proofs.trace.feed.Statement.{statement}

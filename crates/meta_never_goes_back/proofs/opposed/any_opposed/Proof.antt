@@ -4,10 +4,10 @@ use Prim.Native.Nat.{_≤_}
 use native.Mathlib.Omega.{arith}
 use borrow.Author.Needs.{needs}
 use Rattle.record.specs.Records.{decode}
-use Rattle.rules.proofs.Booleans.{never}
+use Rattle.record.proofs.Booleans.{never}
 use Rattle.history.proofs.Logs.{record-length}
 use Rattle.history.specs.Logs.{hist}
-use Rattle.meta_never_goes_back.specs.Index.{MetaIndexed}
+use Rattle.meta_never_goes_back.specs.Columns.{MetaIndexed}
 use Rattle.meta_never_goes_back.specs.Walk.{Passed}
 use Rattle.meta_never_goes_back.proofs.Naming.{down}
 use Rattle.meta_never_goes_back.proofs.Spared.{passed-first, passed-end, passed-covered, passed-miss}

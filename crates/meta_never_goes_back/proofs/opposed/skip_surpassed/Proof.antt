@@ -7,7 +7,7 @@ use borrow.Author.Tests.{not-false, not-true}
 use Rattle.record.specs.Records.{decode}
 use Rattle.history.proofs.Logs.{record-length}
 use Rattle.history.specs.Logs.{hist}
-use Rattle.meta_never_goes_back.specs.Index.{MetaIndexed}
+use Rattle.meta_never_goes_back.specs.Columns.{MetaIndexed}
 use Rattle.meta_never_goes_back.specs.Walk.{Passed}
 use Rattle.meta_never_goes_back.proofs.Naming.{down}
 use Rattle.meta_never_goes_back.proofs.Surpassed.{Skips, skips-first, skips-end, skips-stop, skips-next, skips-marked}

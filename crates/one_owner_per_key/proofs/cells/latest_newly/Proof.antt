@@ -31,7 +31,11 @@ returns-2 : tie.Need-returns-2
 returns-2 c = (omega arith, rw (ne-eqb _ 0 (c .before .before .if1 .left), eq-eqb _ 1 (c .if2 .taken)))
 
 returns-3 : tie.Need-returns-3
-returns-3 c = (omega (arith, c .newly-before .ensures .0), c .newly-before .ensures .1 ∙ rw (ne-eqb _ 0 (c .before .before .before .if1 .left), ne-eqb _ 1 (c .before .if2 .left)))
+returns-3 c = (
+  omega (arith, c .newly-before .ensures .0),
+  c .newly-before .ensures .1
+      ∙ rw (ne-eqb _ 0 (c .before .before .before .if1 .left), ne-eqb _ 1 (c .before .if2 .left)),
+)
 
 pub latest-newly-spec : {M : Type 1} → statement M
 latest-newly-spec =

@@ -1,7 +1,7 @@
 -- Each byte is below 256, so no sum wraps; the nested sums are the number by the law on its four bytes.
 use native.Mathlib.Omega.{arith}
 use Prim.Native.Nat.{_+_}
-use Rattle.one_owner_per_key.proofs.Groups.{big32-bytes}
+use Rattle.rules.proofs.Groups.{big32-bytes}
 use borrow.Author.Needs.{needs}
 use Rattle.one_owner_per_key.proofs.group.big32.Statement.{statement}
 use Rattle.one_owner_per_key.proofs.group.big32.Tie as tie
@@ -76,7 +76,8 @@ add-result-3 c =
     omega (arith, known (s .at), known (s .at + 1), known (s .at + 2), known (s .at + 3))
 
 returns : tie.Need-returns
-returns c = rw (c .before .before .before .before .before .before .wide32 .ensures, c .before .before .before .before .wide322 .ensures, c .before .before .wide323 .ensures, c .wide324 .ensures) (big32-bytes (c .before .before .before .before .before .before .before .before .before .args .at) (c .before .before .before .before .before .before .before .before .before .args .s .now) (c .before .before .before .before .before .before .before .before .before .pre))
+returns c =
+    rw (c .before .before .before .before .before .before .wide32 .ensures, c .before .before .before .before .wide322 .ensures, c .before .before .wide323 .ensures, c .wide324 .ensures) (big32-bytes (c .before .before .before .before .before .before .before .before .before .args .at) (c .before .before .before .before .before .before .before .before .before .args .s .now) (c .before .before .before .before .before .before .before .before .before .pre))
 
 pub big32-spec : {M : Type 1} → statement M
 big32-spec =

@@ -1,5 +1,5 @@
 -- The high half first.
-use Rattle.one_owner_per_key.proofs.Groups.{big64-halves}
+use Rattle.rules.proofs.Groups.{big64-halves}
 use borrow.Author.Needs.{needs}
 use Rattle.one_owner_per_key.proofs.group.big64.Statement.{statement}
 use Rattle.one_owner_per_key.proofs.group.big64.Tie as tie
@@ -26,7 +26,9 @@ add-result : tie.Need-add-result
 add-result c = search needs
 
 returns : tie.Need-returns
-returns c = big64-halves (c .before .before .before .args .at) (c .before .before .before .args .s .now) (c .before .before .before .pre) (c .before .big32 .ensures) (c .big322 .ensures)
+returns c =
+    big64-halves (c .before .before .before .args .at) (c .before .before .before .args .s .now) (c .before .before .before .pre)
+    (c .before .big32 .ensures) (c .big322 .ensures)
 
 pub big64-spec : {M : Type 1} → statement M
 big64-spec =

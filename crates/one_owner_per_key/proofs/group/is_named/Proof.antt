@@ -9,7 +9,7 @@ use Rattle.record.specs.Keys.{Key}
 use Rattle.record.specs.Records.{Span, decode}
 use Rattle.rules.specs.History.{holds, anyOf}
 use Rattle.rules.specs.OneOwnerPerKey.{groupOf, isNamed}
-use Rattle.one_owner_per_key.proofs.Spans.{any-hit, any-miss, any-end}
+use Rattle.rules.proofs.Spans.{any-hit, any-miss, any-end}
 use borrow.Author.Needs.{needs}
 use Rattle.one_owner_per_key.proofs.group.is_named.Statement.{statement}
 use Rattle.one_owner_per_key.proofs.group.is_named.Tie as tie

@@ -18,10 +18,14 @@ enum-told : tie.Need-enum-told
 enum-told c = search needs
 
 returns : tie.Need-returns
-returns c = sym (ap (holds (λ (g : ℕ). eqb g (c .before .before .before .before .args .range))) (sym (c .before .before .group-of .ensures) ∙ ap groupIn (c .enum-told .given .1)))
+returns c =
+    sym (ap (holds (λ (g : ℕ). eqb g (c .before .before .before .before .args .range)))
+    (sym (c .before .before .group-of .ensures) ∙ ap groupIn (c .enum-told .given .1)))
 
 returns-2 : tie.Need-returns-2
-returns-2 c = sym (ap (holds (λ (g : ℕ). eqb g (c .before .before .before .before .before .args .range))) (sym (c .before .before .before .group-of .ensures) ∙ ap groupIn (c .before .g .given .1)))
+returns-2 c =
+    sym (ap (holds (λ (g : ℕ). eqb g (c .before .before .before .before .before .args .range)))
+    (sym (c .before .before .before .group-of .ensures) ∙ ap groupIn (c .before .g .given .1)))
 
 pub names-spec : {M : Type 1} → statement M
 names-spec = tie.close (tie.spec group-of-requires enum-known-g enum-told returns returns-2)

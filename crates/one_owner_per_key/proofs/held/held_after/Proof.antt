@@ -25,7 +25,9 @@ record-at-requires : tie.Need-record-at-requires
 record-at-requires c κs = search needs
 
 is-holding-requires : tie.Need-is-holding-requires
-is-holding-requires c κs = rw (c .record-at .ensures) (bytes-length (c .before .before .before .before .before .args .log .now) (c .before .before .hold-of .result - 1) (omega (arith, c .before .before .before .before .before .pre .0)))
+is-holding-requires c κs =
+    rw (c .record-at .ensures) (bytes-length (c .before .before .before .before .before .args .log .now) (c .before .before .hold-of .result - 1)
+    (omega (arith, c .before .before .before .before .before .pre .0)))
 
 returns-2 : tie.Need-returns-2
 returns-2 c =

@@ -1,7 +1,7 @@
 -- The node's latest record says its latest end.
 use mathlib.Core.Path.{_∙_}
 use Rattle.one_owner_per_key.proofs.AsOf.{end-is}
-use Rattle.one_owner_per_key.proofs.Checks.{found-none, found-some}
+use Rattle.rules.proofs.Answers.{found-none, found-at}
 use borrow.Author.Needs.{needs}
 use Rattle.one_owner_per_key.proofs.held.held_by.Statement.{statement}
 use Rattle.one_owner_per_key.proofs.held.held_by.Tie as tie
@@ -20,7 +20,9 @@ returns c =
     let a = c .before .before .before .before .before .before .args in
     let p = c .before .before .before .before .before .before .pre in
     λ ix.
-    let e = c .before .before .end-by .ensures .1 ∙ end-is (a .log .now) (a .count) (a .node .0) ix (p .0 .within) (p .1) (c .before .before .before .latest-of .ensures .1 ix) in
+    let e =
+    c .before .before .end-by .ensures .1 ∙ end-is (a .log .now) (a .count) (a .node .0) ix (p .0 .within) (p .1)
+    (c .before .before .before .latest-of .ensures .1 ix) in
     found-none (c .before .held-after .ensures .1 ix e) (c .if1 .taken)
 
 returns-2 : tie.Need-returns-2
@@ -28,8 +30,10 @@ returns-2 c =
     let a = c .before .before .before .before .before .before .args in
     let p = c .before .before .before .before .before .before .pre in
     λ ix.
-    let e = c .before .before .end-by .ensures .1 ∙ end-is (a .log .now) (a .count) (a .node .0) ix (p .0 .within) (p .1) (c .before .before .before .latest-of .ensures .1 ix) in
-    found-some (c .before .held-after .ensures .1 ix e) (c .if1 .left)
+    let e =
+    c .before .before .end-by .ensures .1 ∙ end-is (a .log .now) (a .count) (a .node .0) ix (p .0 .within) (p .1)
+    (c .before .before .before .latest-of .ensures .1 ix) in
+    found-at (c .before .held-after .ensures .1 ix e) (c .if1 .left)
 
 pub held-by-spec : {M : Type 1} → statement M
 held-by-spec =

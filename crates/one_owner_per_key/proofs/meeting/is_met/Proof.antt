@@ -17,7 +17,8 @@ held-after-requires c κs = search needs
 returns : tie.Need-returns
 returns c =
     let a = c .before .before .before .before .before .args in
-    λ ix e. met-none (meets (spanOf (a .k) (decode (a .rec .now)))) (a .node .0) (a .range) (a .log .now) (a .count) (c .before .held-after .ensures .1 ix e) (c .if1 .taken)
+    λ ix e. met-none (meets (spanOf (a .k) (decode (a .rec .now)))) (a .node .0) (a .range) (a .log .now) (a .count)
+    (c .before .held-after .ensures .1 ix e) (c .if1 .taken)
 
 sub-record-at : tie.Need-sub-record-at
 sub-record-at c = search needs
@@ -27,14 +28,21 @@ record-at-requires c κs = search needs
 
 meets-requires : tie.Need-meets-requires
 meets-requires c κs =
-    let p = c .before .before .before .before .before .before .pre in
-    (p .1 .0, (p .1 .1, rw (c .record-at .ensures) (bytes-length (c .before .before .before .before .before .before .args .log .now) (c .before .before .held-after .result - 1) (omega (arith, p .0)))))
+    let p = c .before .before .before .before .before .before .pre in (
+      p .1 .0,
+      (
+        p .1 .1,
+        rw (c .record-at .ensures)
+            (bytes-length (c .before .before .before .before .before .before .args .log .now) (c .before .before .held-after .result - 1) (omega (arith, p .0))),
+      ),
+    )
 
 returns-2 : tie.Need-returns-2
 returns-2 c =
     let a = c .before .before .before .before .before .before .before .args in
     let s = spanOf (a .k) (decode (a .rec .now)) in
-    λ ix e. met-some (meets s) (a .node .0) (a .range) (a .log .now) (a .count) (c .before .before .before .held-after .ensures .1 ix e) (c .before .before .if1 .left)
+    λ ix e. met-some (meets s) (a .node .0) (a .range) (a .log .now) (a .count) (c .before .before .before .held-after .ensures .1 ix e)
+    (c .before .before .if1 .left)
     (c .meets .ensures ∙ ap (λ (x : TraceRecord). meets s (spanOf 0 x)) (record-bytes _ _ (c .before .record-at .ensures)))
 
 pub is-met-spec : {M : Type 1} → statement M

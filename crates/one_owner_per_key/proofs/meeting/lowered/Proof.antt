@@ -26,7 +26,8 @@ returns c =
     let x = decode (a .rec .now) in
     λ ix e. lowered-met (a .range) (rangeIn (a .best)) (passes (a .others) (x .spans) (a .range))
     (holds (meets (spanOf (a .k) x)) (holdOf (a .node .0) (a .range) h))
-    (c .before .before .before .before .before .is-below .ensures) (c .before .before .before .before .if1 .taken) (c .before .before .before .passes .ensures) (c .before .before .if2 .taken) (c .before .is-met .ensures ix e) (c .if3 .taken)
+    (c .before .before .before .before .before .is-below .ensures) (c .before .before .before .before .if1 .taken)
+    (c .before .before .before .passes .ensures) (c .before .before .if2 .taken) (c .before .is-met .ensures ix e) (c .if3 .taken)
 
 returns-2 : tie.Need-returns-2
 returns-2 c =

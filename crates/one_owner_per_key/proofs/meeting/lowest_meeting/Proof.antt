@@ -6,7 +6,7 @@ use Rattle.record.specs.Records.{TraceRecord, decode}
 use Rattle.rules.specs.Descriptors.{spanOf}
 use Rattle.history.specs.Logs.{recordAt, hist}
 use Rattle.history.proofs.Logs.{record-bytes, bytes-length}
-use Rattle.one_owner_per_key.specs.Index.{OwnersIndexed}
+use Rattle.one_owner_per_key.specs.Columns.{OwnersIndexed}
 use Rattle.one_owner_per_key.specs.Answers.{rangeIn, passes}
 use Rattle.one_owner_per_key.proofs.AsOf.{newly-by, end-is, newest-is, before-is}
 use Rattle.one_owner_per_key.proofs.Meets.{met, Walked, walked-first, walked-next, walked-lowest}
@@ -37,8 +37,10 @@ loop-holds c =
     let p = c .before .before .before .before .before .before .pre in (
       omega (arith, c .latest-newly .ensures .0, c .before .before .latest-of .ensures .0),
       λ ix. walked-first (passes (a .others) (decode (a .rec .now) .spans)) (spanOf (a .k) (decode (a .rec .now))) (a .node .0) (a .log .now) (a .count)
-          (c .before .end-by .ensures .1 ∙ end-is (a .log .now) (a .count) (a .node .0) ix (p .0 .within) (omega arith) (c .before .before .latest-of .ensures .1 ix))
-          (c .latest-newly .ensures .1 ∙ newest-is (a .log .now) (a .count) (a .node .0) ix (p .0 .within) (omega arith) (c .before .before .latest-of .ensures .1 ix)),
+          (c .before .end-by .ensures .1 ∙ end-is (a .log .now) (a .count) (a .node .0) ix (p .0 .within) (omega arith)
+          (c .before .before .latest-of .ensures .1 ix))
+          (c .latest-newly .ensures .1 ∙ newest-is (a .log .now) (a .count) (a .node .0) ix (p .0 .within) (omega arith)
+          (c .before .before .latest-of .ensures .1 ix)),
     )
 
 sub-record-at : tie.Need-sub-record-at Inv-loop μ-loop
@@ -48,13 +50,17 @@ record-at-requires : tie.Need-record-at-requires Inv-loop μ-loop
 record-at-requires c κs = omega (arith, c .before .before .before .before .before .before .before .before .pre .0, c .before .loop .inv .0)
 
 a-requires : tie.Need-a-requires Inv-loop μ-loop
-a-requires c κs = rw (c .record-at .ensures) (bytes-length (c .before .before .before .before .before .before .before .before .before .args .log .now) (c .before .before .loop .i - 1) (omega (arith, c .before .before .before .before .before .before .before .before .before .pre .0, c .before .before .loop .inv .0)))
+a-requires c κs =
+    rw (c .record-at .ensures) (bytes-length (c .before .before .before .before .before .before .before .before .before .args .log .now)
+    (c .before .before .loop .i - 1)
+    (omega (arith, c .before .before .before .before .before .before .before .before .before .pre .0, c .before .before .loop .inv .0)))
 
 lowered-requires : tie.Need-lowered-requires Inv-loop μ-loop
 lowered-requires c κs = search needs
 
 newly-before-requires : tie.Need-newly-before-requires Inv-loop μ-loop
-newly-before-requires c κs = omega (arith, c .before .before .before .before .before .before .before .before .before .before .before .pre .0, c .before .before .before .before .loop .inv .0)
+newly-before-requires c κs =
+    omega (arith, c .before .before .before .before .before .before .before .before .before .before .before .pre .0, c .before .before .before .before .loop .inv .0)
 
 loop-less : tie.Need-loop-less Inv-loop μ-loop
 loop-less c = omega (arith, c .newly-before .ensures .0)
@@ -68,7 +74,8 @@ loop-again c =
       λ ix.
           walked-next (l .inv .1 ix) (omega arith)
           (c .before .before .a .ensures ∙ ap (λ (x : TraceRecord). x .a) (record-bytes _ _ (c .before .before .before .record-at .ensures)))
-          (c .before .lowered .ensures ix (c .before .before .before .before .before .before .before .end-by .ensures .1 ∙ end-is (a .log .now) (a .count) (a .node .0) ix (p .0 .within) (omega arith) (c .before .before .before .before .before .before .before .before .latest-of .ensures .1 ix)))
+          (c .before .lowered .ensures ix (c .before .before .before .before .before .before .before .end-by .ensures .1 ∙ end-is (a .log .now) (a .count)
+          (a .node .0) ix (p .0 .within) (omega arith) (c .before .before .before .before .before .before .before .before .latest-of .ensures .1 ix)))
           (c .newly-before .ensures .1
           ∙ before-is (a .log .now) (a .count) (a .node .0) ix (p .0 .within) (l .i) (omega arith) (l .inv .0)
           (newly-by (a .node .0) (recordAt (a .log .now) (l .i - 1)) (hist (a .log .now) (l .i - 1)) (l .inv .1 ix .here (omega arith)))),

@@ -1,7 +1,7 @@
 -- The two tests of the rule, the second only where the first holds.
 use Rattle.record.specs.Records.{decode}
 use Rattle.rules.specs.Descriptors.{spanOf}
-use Rattle.one_owner_per_key.proofs.Spans.{meets-both, meets-not}
+use Rattle.rules.proofs.Spans.{meets-both, meets-not}
 use borrow.Author.Needs.{needs}
 use Rattle.one_owner_per_key.proofs.meeting.meets.Statement.{statement}
 use Rattle.one_owner_per_key.proofs.meeting.meets.Tie as tie

@@ -38,9 +38,16 @@ returns c =
     let x = decode (a .rec .now) in
     let h = hist (a .log .now) (a .count) in
     λ ix m.
-    let e = c .before .before .before .end-by .ensures .1 ∙ end-is (a .log .now) (a .count) (a .node .0) ix (p .0 .within) (omega arith) (c .before .before .before .before .latest-of .ensures .1 ix) in
-    let w = c .before .latest-newly .ensures .1 ∙ newest-is (a .log .now) (a .count) (a .node .0) ix (p .0 .within) (omega arith) (c .before .before .before .before .latest-of .ensures .1 ix) in
-    (newly-word (a .node) x h m w (c .before .before .newly .ensures .1 ix e), ended-word (a .node) x h m (hist-length (a .log .now) (a .count)) e (c .end-with .ensures))
+    let e =
+    c .before .before .before .end-by .ensures .1 ∙ end-is (a .log .now) (a .count) (a .node .0) ix (p .0 .within) (omega arith)
+    (c .before .before .before .before .latest-of .ensures .1 ix) in
+    let w =
+    c .before .latest-newly .ensures .1 ∙ newest-is (a .log .now) (a .count) (a .node .0) ix (p .0 .within) (omega arith)
+    (c .before .before .before .before .latest-of .ensures .1 ix) in (
+      newly-word (a .node) x h m w (c .before .before .newly .ensures .1 ix e),
+      ended-word (a .node) x h m (hist-length (a .log .now) (a .count)) e
+          (c .end-with .ensures),
+    )
 
 pub cells-of-spec : {M : Type 1} → statement M
 cells-of-spec =

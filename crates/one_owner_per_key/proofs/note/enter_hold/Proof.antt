@@ -30,7 +30,14 @@ same-length c = search needs
 
 returns-2 : tie.Need-returns-2
 returns-2 c =
-    rw (← c .before .before .before .before .before .before .before .is-chained .ensures, not-false (c .before .before .before .before .before .before .before .is-chained .result) (c .before .before .before .before .before .before .if1 .left), ← c .before .before .before .before .a .ensures, ← c .before .before .before .hold-bucket .ensures .0)
+    rw (
+      ← c .before .before .before .before .before .before .before .is-chained .ensures,
+      not-false
+          (c .before .before .before .before .before .before .before .is-chained .result)
+          (c .before .before .before .before .before .before .if1 .left),
+      ← c .before .before .before .before .a .ensures,
+      ← c .before .before .before .hold-bucket .ensures .0,
+    )
     (c .before .before .enter .ensures)
 
 pub enter-hold-spec : {M : Type 1} → statement M

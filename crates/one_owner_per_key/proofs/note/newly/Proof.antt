@@ -13,8 +13,11 @@ is-holding-requires c κs = search needs
 
 returns : tie.Need-returns
 returns c =
-    let a = c .before .before .before .before .before .args in
-    (omega arith, λ ix e. newly-not (a .node .0) (decode (a .rec .now)) (hist (a .log .now) (a .count)) (c .before .is-holding .ensures) (not-true (c .before .is-holding .result) (c .if1 .taken)))
+    let a = c .before .before .before .before .before .args in (
+      omega arith,
+      λ ix e. newly-not (a .node .0) (decode (a .rec .now)) (hist (a .log .now) (a .count)) (c .before .is-holding .ensures)
+          (not-true (c .before .is-holding .result) (c .if1 .taken)),
+    )
 
 a-requires : tie.Need-a-requires
 a-requires c κs = search needs
@@ -26,7 +29,8 @@ returns-2 : tie.Need-returns-2
 returns-2 c =
     let a = c .before .before .before .before .before .before .before .before .args in (
       omega arith,
-      λ ix e. newly-free (a .node .0) (decode (a .rec .now)) (hist (a .log .now) (a .count)) (c .before .before .before .before .is-holding .ensures) (not-false (c .before .before .before .before .is-holding .result) (c .before .before .before .if1 .left))
+      λ ix e. newly-free (a .node .0) (decode (a .rec .now)) (hist (a .log .now) (a .count)) (c .before .before .before .before .is-holding .ensures)
+          (not-false (c .before .before .before .before .is-holding .result) (c .before .before .before .if1 .left))
           (c .before .before .a .ensures) (c .before .held-after .ensures .1 ix e) (c .if2 .taken),
     )
 
@@ -34,7 +38,8 @@ returns-3 : tie.Need-returns-3
 returns-3 c =
     let a = c .before .before .before .before .before .before .before .before .args in (
       omega arith,
-      λ ix e. newly-held (a .node .0) (decode (a .rec .now)) (hist (a .log .now) (a .count)) (c .before .before .before .before .is-holding .ensures) (not-false (c .before .before .before .before .is-holding .result) (c .before .before .before .if1 .left))
+      λ ix e. newly-held (a .node .0) (decode (a .rec .now)) (hist (a .log .now) (a .count)) (c .before .before .before .before .is-holding .ensures)
+          (not-false (c .before .before .before .before .is-holding .result) (c .before .before .before .if1 .left))
           (c .before .before .a .ensures) (c .before .held-after .ensures .1 ix e) (c .if2 .left),
     )
 

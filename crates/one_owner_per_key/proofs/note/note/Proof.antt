@@ -21,7 +21,8 @@ enum-told c = search needs
 returns : tie.Need-returns
 returns c =
     let a = c .before .before .before .before .before .before .args in
-    noted-unmarked (a .cap) (hist (a .log .now) (a .count)) (decode (a .rec .now)) (sym (c .before .before .node .ensures) ∙ c .enum-told .given .1) (a .work .now)
+    noted-unmarked (a .cap) (hist (a .log .now) (a .count)) (decode (a .rec .now)) (sym (c .before .before .node .ensures) ∙ c .enum-told .given .1)
+    (a .work .now)
 
 cells-of-requires : tie.Need-cells-of-requires
 cells-of-requires c κs = search needs
@@ -51,25 +52,34 @@ put-requires : tie.Need-put-requires
 put-requires c κs = search needs
 
 mul-put-2 : tie.Need-mul-put-2
-mul-put-2 c = omega (arith, c .before .before .before .before .before .before .before .before .before .before .before .before .before .before .before .before .before .before .before .before .before .before .before .pre)
+mul-put-2 c =
+    omega (arith, c .before .before .before .before .before .before .before .before .before .before .before .before .before .before .before .before .before .before .before .before .before .before .before .pre)
 
 add-put-2 : tie.Need-add-put-2
-add-put-2 c = omega (arith, c .before .before .before .before .before .before .before .before .before .before .before .before .before .before .before .before .before .before .before .before .before .before .before .pre)
+add-put-2 c =
+    omega (arith, c .before .before .before .before .before .before .before .before .before .before .before .before .before .before .before .before .before .before .before .before .before .before .before .pre)
 
 put-requires-2 : tie.Need-put-requires-2
-put-requires-2 c κs = omega (arith, c .before .before .before .before .before .before .before .before .before .before .before .before .before .before .before .before .before .before .before .before .before .before .before .pre)
+put-requires-2 c κs =
+    omega (arith, c .before .before .before .before .before .before .before .before .before .before .before .before .before .before .before .before .before .before .before .before .before .before .before .pre)
 
 same-length : tie.Need-same-length
 same-length c = search needs
 
 returns-2 : tie.Need-returns-2
 returns-2 c =
-    let a = c .before .before .before .before .before .before .before .before .before .before .before .before .before .before .before .before .before .before .before .before .before .before .before .before .before .before .args in
-    let p = c .before .before .before .before .before .before .before .before .before .before .before .before .before .before .before .before .before .before .before .before .before .before .before .before .before .before .pre in
-    noted-marked (a .cap) (hist (a .log .now) (a .count)) (decode (a .rec .now)) (c .before .before .before .before .before .before .before .before .before .before .before .before .before .before .before .before .before .before .before .before .marked .given .0 .0)
+    let a =
+    c .before .before .before .before .before .before .before .before .before .before .before .before .before .before .before .before .before .before .before .before .before .before .before .before .before .before .args in
+    let p =
+    c .before .before .before .before .before .before .before .before .before .before .before .before .before .before .before .before .before .before .before .before .before .before .before .before .before .before .pre in
+    noted-marked (a .cap) (hist (a .log .now) (a .count)) (decode (a .rec .now))
+    (c .before .before .before .before .before .before .before .before .before .before .before .before .before .before .before .before .before .before .before .before .marked .given .0 .0)
     (sym (c .before .before .before .before .before .before .before .before .before .before .before .before .before .before .before .before .before .before .before .before .before .before .node .ensures) ∙ c .before .before .before .before .before .before .before .before .before .before .before .before .before .before .before .before .before .before .before .before .marked .given .1)
     (hist-length (a .log .now) (a .count)) (p .1 .0)
-    (c .before .before .before .before .before .before .before .before .before .before .before .before .before .before .before .enter-hold .ensures) (c .before .before .before .before .before .before .before .before .before .before .before .node-bucket .ensures) (c .before .before .before .before .before .before .before .before .before .before .enter .ensures) (c .before .before .before .before .before .before .put .ensures) (c .before .before .put2 .ensures)
+    (c .before .before .before .before .before .before .before .before .before .before .before .before .before .before .before .enter-hold .ensures)
+    (c .before .before .before .before .before .before .before .before .before .before .before .node-bucket .ensures)
+    (c .before .before .before .before .before .before .before .before .before .before .enter .ensures)
+    (c .before .before .before .before .before .before .put .ensures) (c .before .before .put2 .ensures)
     (c .before .before .before .before .before .before .before .before .before .before .before .before .before .before .before .before .before .cells-of .ensures)
 
 pub note-spec : {M : Type 1} → statement M

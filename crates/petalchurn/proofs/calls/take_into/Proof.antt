@@ -5,7 +5,7 @@ use native.Mathlib.Omega.{arith}
 use lib.ListN.{length, getD, length-set}
 use mir.Syntax.{w64}
 use mir.Val.{Fits}
-use Rattle.intake.proofs.Decisions.{Room, room-of}
+use Rattle.decision.proofs.Decisions.{Room, room-of}
 use Rattle.state_words.specs.StateWords.{stateSize, IsState}
 use Rattle.state_words.proofs.Headers.{withRows, part-size, with-size}
 use Rattle.state_words.proofs.States.{state-facts}

@@ -49,7 +49,7 @@ use denote.Triple.Walked.{says, Stays, stay-none, gave-slice, stay-none-slice, w
 use denote.Triple.Walked.{walk-meets}
 use denote.Exit.{yes}
 use denote.Signature.{plain}
-use Rattle.judge.specs.Runs.{PushedBy}
+use Rattle.judge.specs.Pushes.{PushedBy}
 use Rattle.judge.specs.declared.state.Judge.{Judge}
 use Rattle.judge.specs.declared.push.Pushed.{Pushed}
 use Rattle.judge.specs.declared.state.Refusal.{Refusal}

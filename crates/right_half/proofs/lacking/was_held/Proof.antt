@@ -1,9 +1,8 @@
 -- What it held then, unless a refusal came since.
-use mathlib.Core.Path.{_≡_, refl, sym, ap, _∙_}
 use native.Mathlib.Omega.{arith}
 use Prim.Native.Nat.{_-_}
 use Rattle.history.specs.Logs.{hist}
-use Rattle.right_half.proofs.Searches.{held-at, held-not}
+use Rattle.one_owner_per_key.proofs.Checks.{found-held, lost-held}
 use Rattle.right_half.proofs.Lacks.{with-dropped, with-held}
 use borrow.Author.Needs.{needs}
 use Rattle.right_half.proofs.lacking.was_held.Statement.{statement}
@@ -25,10 +24,18 @@ enum-told-2 : tie.Need-enum-told-2
 enum-told-2 c = search needs
 
 returns-2 : tie.Need-returns-2
-returns-2 c = let a = c .before .before .before .before .before .before .args in λ ix e f g. with-held (a .node .0) (a .range) (a .log .now) (a .count) e f g (c .before .before .before .if1 .left) (held-at (a .node .0) (a .range) (hist (a .log .now) (a .restated - 1)) (c .before .before .held-by .ensures (ix .0)) (c .enum-told .given .1))
+returns-2 c =
+    let a =
+    c .before .before .before .before .before .before .args in λ ix e f g. with-held (a .node .0) (a .range) (a .log .now) (a .count) e f g
+    (c .before .before .before .if1 .left) (found-held (a .node .0) (a .range) (hist (a .log .now) (a .restated - 1))
+    (c .before .before .held-by .ensures (ix .0)) (c .enum-told .given .1))
 
 returns-3 : tie.Need-returns-3
-returns-3 c = let a = c .before .before .before .before .before .before .args in λ ix e f g. with-held (a .node .0) (a .range) (a .log .now) (a .count) e f g (c .before .before .before .if1 .left) (held-not (a .node .0) (a .range) (hist (a .log .now) (a .restated - 1)) (c .before .before .held-by .ensures (ix .0)) (c .enum-told2 .given .1))
+returns-3 c =
+    let a =
+    c .before .before .before .before .before .before .args in λ ix e f g. with-held (a .node .0) (a .range) (a .log .now) (a .count) e f g
+    (c .before .before .before .if1 .left) (lost-held (a .node .0) (a .range) (hist (a .log .now) (a .restated - 1))
+    (c .before .before .held-by .ensures (ix .0)) (c .enum-told2 .given .1))
 
 pub was-held-spec : {M : Type 1} → statement M
 was-held-spec =

@@ -1,5 +1,4 @@
 -- By whether there is one.
-use mathlib.Core.Path.{_≡_, refl, sym, ap, _∙_}
 use borrow.Author.Needs.{needs}
 use Rattle.right_half.proofs.missing.is_below.Statement.{statement}
 use Rattle.right_half.proofs.missing.is_below.Tie as tie

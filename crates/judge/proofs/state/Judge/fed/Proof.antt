@@ -8,7 +8,7 @@ use borrow.Author.Needs.{needs}
 use Rattle.rules.specs.declared.Report.{Report}
 use Rattle.judge.specs.declared.state.Judge.{Judge}
 use Rattle.judge.specs.States.{State}
-use Rattle.judge.specs.Runs.{stateOf}
+use Rattle.judge.specs.Pushes.{stateOf}
 use Rattle.judge.specs.Traces.{Feeds, judgeBy}
 use Rattle.judge.proofs.Traces.{zeros-fit}
 use Rattle.judge.proofs.state.Judge.fed.Statement.{statement}

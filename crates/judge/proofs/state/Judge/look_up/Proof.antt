@@ -1,5 +1,5 @@
 -- `look_up`: refused by the numbers and lengths; of no capacity the answer of no records; else too short, or given.
-use Rattle.intake.proofs.Suiting.{suiting, bounded}
+use Rattle.decision.proofs.Suiting.{suiting, bounded}
 use Rattle.judge.proofs.Lookups.{lends-by, looked-as, looked-refused, looked-none, looked-short, looked-given}
 use borrow.Author.Tests.{not-true, not-false}
 use borrow.Author.Needs.{needs}

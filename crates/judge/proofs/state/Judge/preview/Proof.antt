@@ -4,8 +4,8 @@ use mathlib.Core.List.{List}
 use Prim.Native.Nat.{ℕ}
 use native.Mathlib.Omega.{arith}
 use lib.ListN.{length}
-use Rattle.intake.specs.Refusals.{PushNumber}
-use Rattle.intake.proofs.Decisions.{push-number, room-of}
+use Rattle.decision.specs.Refusals.{PushNumber}
+use Rattle.decision.proofs.Decisions.{push-number, room-of}
 use Rattle.judge.proofs.Pushes.{RowsOf, written-size, written-fit, written-are}
 use Rattle.judge.proofs.Previews.{ticket-would, ticket-refused, shown-would, shown-refused}
 use borrow.Author.Needs.{needs}

@@ -9,12 +9,12 @@ use mir.Val.{Fits}
 use Rattle.record.specs.Records.{decode}
 use Rattle.rules.specs.declared.Report.{Report}
 use Rattle.events.specs.Numbers.{eventIn}
-use Rattle.intake.specs.Refusals.{PushNumber}
-use Rattle.intake.proofs.Decisions.{Room, push-number as number-drawn, room-of}
+use Rattle.decision.specs.Refusals.{PushNumber}
+use Rattle.decision.proofs.Decisions.{Room, push-number as number-drawn, room-of}
 use Rattle.judge.specs.declared.state.Judge.{Judge}
 use Rattle.intake.specs.Words.{Indexed}
 use Rattle.judge.specs.States.{State}
-use Rattle.judge.specs.Runs.{Pushed, stateOf}
+use Rattle.judge.specs.Pushes.{Pushed, stateOf}
 use Rattle.judge.proofs.Pushes.{RowsOf, written-size, written-fit, written-are, push-number, push-taken, push-refused}
 use borrow.Author.Needs.{needs}
 use Rattle.judge.proofs.state.Judge.push.Statement.{statement}

@@ -6,7 +6,7 @@ use Rattle.rules.specs.declared.Report.{Report}
 use Rattle.rules.specs.Reports.{passed}
 use Rattle.judge.specs.declared.state.Judge.{Judge}
 use Rattle.judge.specs.declared.state.Refusal.the-variants.{Nothing, Judge as Unfit}
-use Rattle.intake.specs.Refusals.{fitsBy}
+use Rattle.decision.specs.Refusals.{fitsBy}
 use Rattle.judge.specs.Answers.{reportNo, ReportedBy}
 use borrow.Author.Tests.{not-true, not-false}
 use borrow.Author.Needs.{needs}

@@ -1,0 +1,2 @@
+-- What the two columns of the chain of the firsts hold.
+pub mod Columns
