@@ -68,4 +68,6 @@ spanless (Known k) = eqb (k .spans .high) 0
 
 pub spanless-kind : (n : ℕ) (k : Shape) → shapeOf n ≡ Known k → hasSpans n ≡ false → k .spans .high ≡ 0
 spanless-kind n k e h =
-    eqb-true _ _ (ap (λ (b : Bool). b || spanless (Known k)) (sym h) ∙ ap (λ (x : Shaped). hasSpans n || spanless x) (sym e) ∙ rows (λ m x. hasSpans m || spanless x) (λ m. or-true (hasSpans m)) shapes refl n)
+    eqb-true _ _ (ap (λ (b : Bool). b || spanless (Known k)) (sym h)
+    ∙ ap (λ (x : Shaped). hasSpans n || spanless x) (sym e)
+    ∙ rows (λ m x. hasSpans m || spanless x) (λ m. or-true (hasSpans m)) shapes refl n)

@@ -36,7 +36,9 @@ pub record Counts (k : Shape) (s : List ℕ) : Type 0 where
   pub voters : Within (k .voters) (byteAt 48 s)
   pub spans : Within (k .spans) (byteAt 49 s)
 
-counts-by : (k : Shape) (s : List ℕ) (m c f v : Bool) → leb (byteAt 1 s) 1 ≡ m → within (k .codes) (byteAt 2 s) ≡ c → within (k .flags) (byteAt 3 s) ≡ f → within (k .voters) (byteAt 48 s) ≡ v → (m && c && f && v && within (k .spans) (byteAt 49 s)) ≡ true → Counts k s
+counts-by : (k : Shape) (s : List ℕ) (m c f v : Bool) → leb (byteAt 1 s) 1 ≡ m → within (k .codes) (byteAt 2 s) ≡ c
+    → within (k .flags) (byteAt 3 s) ≡ f → within (k .voters) (byteAt 48 s) ≡ v
+    → (m && c && f && v && within (k .spans) (byteAt 49 s)) ≡ true → Counts k s
 counts-by k s m c f v em ec ef ev h =
     let a = and-left (m && c && f) v (and-left (m && c && f && v) (within (k .spans) (byteAt 49 s)) h) in
     record {
@@ -80,7 +82,8 @@ pub record Passes (s : List ℕ) : Type 0 where
   pub values : valuesFit shape s ≡ true
   pub unused : unusedClear shape s ≡ true
 
-passes-known : (s : List ℕ) → length s ≡ recordSize → (k : Shape) → shapeOf (byteAt 0 s) ≡ Known k → (v u : Bool) → valuesFit k s ≡ v → unusedClear k s ≡ u → _≡_ {A = ℕ} (cond v (cond u 0 4) 3) 0 → Passes s
+passes-known : (s : List ℕ) → length s ≡ recordSize → (k : Shape) → shapeOf (byteAt 0 s) ≡ Known k → (v u : Bool)
+    → valuesFit k s ≡ v → unusedClear k s ≡ u → _≡_ {A = ℕ} (cond v (cond u 0 4) 3) 0 → Passes s
 passes-known s l k e true true ev eu h = record { size = l; shape = k; known = e; values = ev; unused = eu }
 passes-known s l k e true false ev eu h = absurd (omega arith)
 passes-known s l k e false u ev eu h = absurd (omega arith)

@@ -70,7 +70,8 @@ passed-start p s n =
     let m : n - 0 ≡ n = omega arith in
     record { within = omega arith; is = rw m }
 
-pub passed-turn : {p : List ℕ → Bool} {s : List ℕ} {n i : ℕ} {passed : Bool} → Passed p s n passed i → i < n → (r : Bool) → r ≡ p (part (spansAt + 32 * i) (spansAt + 32 * i + 32) s) → Passed p s n (passed && r) (i + 1)
+pub passed-turn : {p : List ℕ → Bool} {s : List ℕ} {n i : ℕ} {passed : Bool} → Passed p s n passed i → i < n
+    → (r : Bool) → r ≡ p (part (spansAt + 32 * i) (spansAt + 32 * i + 32) s) → Passed p s n (passed && r) (i + 1)
 passed-turn {p} {s} {n} {i} {passed} h l r e =
     let m : n - i ≡ suc (n - (i + 1)) = omega arith in
     let q : spansAt + 32 * i + 32 ≡ spansAt + 32 * (i + 1) = omega arith in
@@ -112,7 +113,8 @@ masked-start place =
     let m : max 0 (1 + getD place 0 0) ≡ 1 + getD place 0 0 = omega arith in
     record { within = omega arith; is = rw m }
 
-module _ (place : List ℕ) (seen i from : ℕ) (len : length place ≡ 32) (fits : getD place 0 0 ≤ 31) (start : from ≡ 31 - getD place 0 0) (byte : getD place i 0 < 256) (l : i < 32) where
+module _ (place : List ℕ) (seen i from : ℕ) (len : length place ≡ 32) (fits : getD place 0 0 ≤ 31)
+    (start : from ≡ 31 - getD place 0 0) (byte : getD place i 0 < 256) (l : i < 32) where
   -- a byte of the key changes nothing
   masked-key : Masked place seen i → i ≤ getD place 0 0 → Masked place (bitOr seen (bitAnd (getD place i 0) (getD paddingBits (from + i) 0))) (i + 1)
   masked-key h k =
@@ -130,11 +132,13 @@ module _ (place : List ℕ) (seen i from : ℕ) (len : length place ≡ 32) (fit
       let n : max (i + 1) (1 + getD place 0 0) ≡ i + 1 = omega arith in
       record { within = omega arith; is = h .is ∙ rw (m, n, e, b, zero-step place i (omega arith), or-zero, and-assoc) }
 
-  masked-by : (t : Bool) → leb i (getD place 0 0) ≡ t → Masked place seen i → Masked place (bitOr seen (bitAnd (getD place i 0) (getD paddingBits (from + i) 0))) (i + 1)
+  masked-by : (t : Bool) → leb i (getD place 0 0) ≡ t → Masked place seen i
+      → Masked place (bitOr seen (bitAnd (getD place i 0) (getD paddingBits (from + i) 0))) (i + 1)
   masked-by true e h = masked-key h (leb-true _ _ e)
   masked-by false e h = masked-padding h (leb-false _ _ e)
 
-  pub masked-turn : (bits : List ℕ) → bits ≡ paddingBits → Masked place seen i → Masked place (bitOr seen (bitAnd (getD place i 0) (getD bits (from + i) 0))) (i + 1)
+  pub masked-turn : (bits : List ℕ) → bits ≡ paddingBits → Masked place seen i
+      → Masked place (bitOr seen (bitAnd (getD place i 0) (getD bits (from + i) 0))) (i + 1)
   masked-turn bits e h = rw e (masked-by _ refl h)
 
 pub masked-end : {place : List ℕ} {seen i : ℕ} → Masked place seen i → length place ≡ 32 → 32 ≤ i → eqb seen 0 ≡ padded place

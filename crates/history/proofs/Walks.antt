@@ -23,12 +23,14 @@ pub look-end : {A : Type 0} (L : History → A) (log : List ℕ) {i : ℕ} → i
 look-end L log e = ap (λ (n : ℕ). L (hist log n)) e ∙ ap L (hist-none log)
 
 -- any look-back is kept by the records outside the bucket, where each of them leaves it as it was
-pub look-outside : {A : Type 0} (L : History → A) (f : Tells ℕ) (b : ℕ) (log : List ℕ) → ((x : TraceRecord) (h : History) → (f x h ≡ some b → ⊥) → L (x ∷ h) ≡ L h)
+pub look-outside : {A : Type 0} (L : History → A) (f : Tells ℕ) (b : ℕ) (log : List ℕ)
+    → ((x : TraceRecord) (h : History) → (f x h ≡ some b → ⊥) → L (x ∷ h) ≡ L h)
     → (k : ℕ) → (In f b log k → ⊥) → L (hist log (suc k)) ≡ L (hist log k)
 look-outside L f b log s k n = ap L (hist-suc log k) ∙ s (recordAt log k) (hist log k) n
 
 -- what was told latest: all that tells anything is in the bucket
-pub latest-outside : {A : Type 0} (tells : Tells A) (f : Tells ℕ) (b : ℕ) (log : List ℕ) → ((x : TraceRecord) (h : History) (v : A) → tells x h ≡ some v → f x h ≡ some b)
+pub latest-outside : {A : Type 0} (tells : Tells A) (f : Tells ℕ) (b : ℕ) (log : List ℕ)
+    → ((x : TraceRecord) (h : History) (v : A) → tells x h ≡ some v → f x h ≡ some b)
     → (k : ℕ) → (In f b log k → ⊥) → latest tells (hist log (suc k)) ≡ latest tells (hist log k)
 latest-outside tells f b log s = look-outside (latest tells) f b log (λ x h n. latest-skip tells x h (tells-none (tells x h) (λ v e. n (s x h v e))))
 
@@ -102,7 +104,8 @@ module _ {A : Type 0} (same : A → A → Bool) (tells : Tells A) (log : List �
   unfolding firsts
   firsts-end e = look-end (firsts same tells) log e
 
-pub firsts-outside : {A B : Type 0} {p : A → Bool} {Q : List A → B} (q : Ignores p Q) (same : A → A → Bool) (tells : Tells A) (f : Tells ℕ) (b : ℕ) (log : List ℕ)
+pub firsts-outside : {A B : Type 0} {p : A → Bool} {Q : List A → B} (q : Ignores p Q) (same : A → A → Bool) (tells : Tells A)
+    (f : Tells ℕ) (b : ℕ) (log : List ℕ)
     → ((x : TraceRecord) (h : History) (v : A) → fresh same tells x h ≡ some v → p v ≡ true → f x h ≡ some b)
     → (k : ℕ) → (In f b log k → ⊥) → Q (firsts same tells (hist log (suc k))) ≡ Q (firsts same tells (hist log k))
 firsts-outside {Q = Q} q same tells f b log s k n =

@@ -38,7 +38,12 @@ module _ (t : List ℕ) (at e : ℕ) (h : (at < e) × (e ≤ length t) × (e ≤
 
   pub record-rest : drop e t ≡ drop 368 (drop at t)
   record-rest = ⊎-elim
-      (λ q. let d = length-drop at t in let a = h .2 in let x : length t ≤ e = omega arith in let y : length (drop at t) ≤ 368 = omega arith in drop-of-length-le t x ∙ sym (drop-of-length-le (drop at t) y))
+      (λ q.
+      let d = length-drop at t in
+      let a = h .2 in
+      let x : length t ≤ e = omega arith in
+      let y : length (drop at t) ≤ 368 = omega arith in
+      drop-of-length-le t x ∙ sym (drop-of-length-le (drop at t) y))
       (λ q. sym (drop-drop 368 at t ∙ ap (λ (m : ℕ). drop m t) (sym (h .3 q))))
       (eq-or-lt-of-le (h .1))
 

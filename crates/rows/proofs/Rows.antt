@@ -26,7 +26,8 @@ set-seven l i a b c d e f g =
     rw (e1, e2, e3, e4, e5, e6)
 
 pub report-written : (l : List ℕ) (i : ℕ) (r : Report) {k : ℕ} → k ≡ kindWord (r .verdict)
-    → set (set (set (set (set (set (set l i k) (i + 1) (r .at)) (i + 2) (r .evidence .e0)) (i + 3) (r .evidence .e1)) (i + 4) (r .evidence .e2)) (i + 5) (r .evidence .e3)) (i + 6) (r .evidence .e4)
+    → set (set (set (set (set (set (set l i k) (i + 1) (r .at)) (i + 2) (r .evidence .e0)) (i + 3) (r .evidence .e1))
+    (i + 4) (r .evidence .e2)) (i + 5) (r .evidence .e3)) (i + 6) (r .evidence .e4)
     ≡ sets l i (reportWords r)
 report-written l i r {k} e =
     set-seven l i k (r .at) (r .evidence .e0) (r .evidence .e1) (r .evidence .e2) (r .evidence .e3) (r .evidence .e4)

@@ -56,7 +56,8 @@ module _ {A : Type 0} (better asGood : A → A → Type 0) (test : A → A → B
       record { place = placed-here x xs e; most = mem-cons (λ q. o .itself x) (λ y i q. o .weaker (a y i q)); before = a }
   best-over x m xs false e t w = record { place = placed-there x (w .place); most = mem-cons (λ q. o .failed x m t) (w .most); before = w .before }
 
-  best-next : (x : A) (xs : List A) (b : Bool) (a : Option A) → p x ≡ b → Answer (IsBest xs) p xs a → Answer (IsBest (x ∷ xs)) p (x ∷ xs) (cond b (keep test x a) a)
+  best-next : (x : A) (xs : List A) (b : Bool) (a : Option A) → p x ≡ b → Answer (IsBest xs) p xs a
+      → Answer (IsBest (x ∷ xs)) p (x ∷ xs) (cond b (keep test x a) a)
   best-next x xs true none e h = record {
     place = placed-here x xs e;
     most = mem-cons (λ q. o .itself x) (λ y i q. never q (h y i));

@@ -63,7 +63,8 @@ module _ {suits : Entry → Type 0} {p : Entry → Bool} (t : Tested suits p) wh
   soonest-right vs f = soonest-by vs (earliestOf p vs) f (earliestOf-right p vs)
 
 -- nothing suits
-none-one : {suits R : Entry → Type 0} {vs : List Entry} → ((w : Entry) → Mem w vs → suits w → ⊥) → ((v : Entry) → R v → Mem v vs) → ((v : Entry) → R v → suits v)
+none-one : {suits R : Entry → Type 0} {vs : List Entry} → ((w : Entry) → Mem w vs → suits w → ⊥)
+    → ((v : Entry) → R v → Mem v vs) → ((v : Entry) → R v → suits v)
     → (o : Option Entry) → Looked suits R vs o → o ≡ none
 none-one f mem suitable none l = refl
 none-one f mem suitable (some r) l = absurd (f r (mem r l) (suitable r l))
@@ -155,7 +156,8 @@ before-zero range index h e = before-none range index h (λ v m s. omega (arith,
 
 -- `first_at_generation`: the value that was put first
 module _ (range generation : ℕ) (h : History) where
-  pub firstAtGeneration-right : Looked (Having range generation) (Soonest (Having range generation) (standing h)) (standing h) (firstAtGeneration range generation h)
+  pub firstAtGeneration-right :
+      Looked (Having range generation) (Soonest (Having range generation) (standing h)) (standing h) (firstAtGeneration range generation h)
   unfolding firstAtGeneration firstAtGenerationIn
   firstAtGeneration-right = soonest-right (having-tested range generation) (standing h) (standing-falls h)
 

@@ -13,7 +13,8 @@ use Rattle.record.specs.Named.{causeOf, causeNumber}
 use Rattle.record.specs.Records.{TraceRecord}
 use Rattle.rules.specs.declared.Case.{Case}
 use Rattle.rules.specs.Views.{rangeOf, createdBy, descriptorBy, applyBy, recoveredBy}
-use Rattle.rules.specs.History.{History, Change, becomes, ends, lasting, isKind, isBy, when, orElse, isSome, holds, given, anyOf, told, latest, firsts, greatestOf, lowestOf}
+use Rattle.rules.specs.History.{History, Change, becomes, ends, lasting, isKind, isBy, when, orElse, isSome}
+use Rattle.rules.specs.History.{holds, given, anyOf, told, latest, firsts, greatestOf, lowestOf}
 use Rattle.rules.specs.Cases.{fault, faultIf, orCase, caseOf}
 use Rattle.rules.specs.GenerationsRise.{hasEffect}
 use Rattle.rules.specs.OneOwnerPerKey.{byMarked, hasHold}
