@@ -20,7 +20,7 @@ use splits::split::{has_taken, is_voter, parent_of};
 
 // Which records of a node and a range are looked for: a RangeRemoved, a RangeSplit at an index, a RangeDescriptor that
 // records an index, any of the kinds that can apply a split.
-#[derive(Drop)]
+#[derive(Clone, Copy)]
 pub enum Asked {
     Removed,
     Traced(u64),

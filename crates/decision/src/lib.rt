@@ -1,4 +1,6 @@
 // What is decided of a record: the refusal that it draws, or the checks that it concerns.
+#![tactic(auto)]
+
 ghost use Rattle.std.specs.Prelude.{◌≡◌, ◌*◌, ◌≤◌, length, eqb};
 ghost use Rattle.form.specs.Form.{refusal_of};
 ghost use Rattle.record.specs.Numbers.{byte_at};

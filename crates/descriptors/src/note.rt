@@ -22,7 +22,7 @@ use record::named::Node;
 
 // What a new record is to be entered for: it puts, it states, its value stands, it is the first of its generation, it is above
 // every standing value of its range.
-#[derive(Drop)]
+#[derive(Clone, Copy)]
 pub struct Told {
     pub puts: bool,
     pub states: bool,

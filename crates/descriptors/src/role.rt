@@ -14,13 +14,13 @@ use history::log::record_at;
 use record::field::{a, b, c, cause, code, kind, node};
 use record::named::{Node, RangeCause};
 
-#[derive(Drop)]
+#[derive(Clone, Copy)]
 pub enum Applied {
     Known(u64),
     Unknown,
 }
 
-#[derive(Drop)]
+#[derive(Clone, Copy)]
 pub enum Role {
     Puts(u64),
     States(u64),

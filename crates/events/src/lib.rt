@@ -1,4 +1,6 @@
 // Events: whether a record continues one, whether it has one to continue, and how many there are with it.
+#![tactic(auto)]
+
 ghost use Rattle.std.specs.Prelude.{◌≡◌, ◌*◌, ◌≤◌, length};
 ghost use Rattle.record.specs.Records.{decode};
 ghost use Rattle.rules.specs.Events.{continues, goes_on, stray};

@@ -5,14 +5,14 @@ ghost use Rattle.form.specs.KindTable.{plain, shape_of};
 use record::limits::{SPAN_LIMIT, VOTER_LIMIT};
 
 // The values from low to high.
-#[derive(Drop)]
+#[derive(Clone, Copy)]
 pub struct Values {
     pub low: u8,
     pub high: u8,
 }
 
 // Which of the numbers A to E a kind uses.
-#[derive(Drop)]
+#[derive(Clone, Copy)]
 pub struct Numbers {
     pub a: bool,
     pub b: bool,
@@ -22,7 +22,7 @@ pub struct Numbers {
 }
 
 // What a kind's records may have in them.
-#[derive(Drop)]
+#[derive(Clone, Copy)]
 pub struct Shape {
     pub codes: Values,
     pub flags: Values,
@@ -35,7 +35,7 @@ pub struct Shape {
     pub ends: bool,
 }
 
-#[derive(Drop)]
+#[derive(Clone, Copy)]
 pub enum Shaped {
     Known(Shape),
     Unknown,

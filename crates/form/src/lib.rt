@@ -1,4 +1,6 @@
 // The refusals of a record by its form: any list of bytes is sound, or draws 1, 2, 3 or 4, in that order.
+#![tactic(auto)]
+
 pub mod kind;
 
 ghost use Rattle.std.specs.Prelude.{◌≡◌, ◌≤◌, length, get_or};
@@ -10,7 +12,7 @@ use record::limits::{KEY_LIMIT, KEY_SIZE, RECORD_SIZE, SPANS_AT, VOTERS_AT};
 use record::number::index;
 
 // What the form of a list of bytes is: sound, or the first refusal that it draws.
-#[derive(Drop)]
+#[derive(Clone, Copy)]
 pub enum Form {
     Sound,
     Length,

@@ -22,7 +22,7 @@ use record::field::{a, b, code, d, kind, span_count};
 use rules::Found;
 
 // What a record's write counts as: none that counts, one that has no generation, one at a generation.
-#[derive(Drop)]
+#[derive(Clone, Copy)]
 pub enum Written {
     Not,
     Unrated,

@@ -12,7 +12,7 @@ use record::field::{d, e};
 
 // What a walk from block to block has found of a new block: whether one shares an id with it, and the greatest first not
 // above its last.
-#[derive(Drop)]
+#[derive(Clone, Copy)]
 pub struct Shared {
     pub any: bool,
     pub top: u64,

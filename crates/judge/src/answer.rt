@@ -7,7 +7,7 @@ use rows::pass;
 use rules::{CHECKS, Report};
 
 // What a call for a report gives: its refusal, the judge as it was given, and the report.
-#[derive(Drop)]
+#[derive(Clone, Copy)]
 pub struct Reported {
     pub refusal: Refusal,
     pub judge: Judge,

@@ -10,7 +10,7 @@ use ids_unique::list::{Listed, blocks, holders_of};
 use rules::Found;
 
 // What can be asked of the records taken, by the names of the Rust. The last two write a list.
-#[derive(Drop)]
+#[derive(Clone, Copy)]
 pub enum Question {
     Before(u64, u64),
     At(u64, u64),
@@ -23,7 +23,7 @@ pub enum Question {
 
 // What a look-up gives: its refusal, the judge, and the answer. That is the number of the putting record, 0 for none; how many
 // statements, holders or blocks there are; 1 where no value has been put, else 0.
-#[derive(Drop)]
+#[derive(Clone, Copy)]
 pub struct Looked {
     pub refusal: Refusal,
     pub judge: Judge,

@@ -8,7 +8,7 @@ use rows::pass;
 use rules::{CHECKS, Opening};
 
 // What an opening gives: its refusal, and the judge.
-#[derive(Drop)]
+#[derive(Clone, Copy)]
 pub struct Opened {
     pub refusal: Refusal,
     pub judge: Judge,

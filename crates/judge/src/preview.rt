@@ -10,7 +10,7 @@ use rules::{CHECKS, Report};
 
 // What a preview gives: the refusal that a push would draw, the judge as it was given, the reports that it would have, and a ticket
 // to commit the record with.
-#[derive(Drop)]
+#[derive(Clone, Copy)]
 pub struct Previewed {
     pub refusal: Refusal,
     pub judge: Judge,

@@ -7,7 +7,7 @@ use intake::take::take;
 use rows::{ROWS, read_rows, write_rows};
 
 // What a push gives: its refusal, and the judge.
-#[derive(Drop)]
+#[derive(Clone, Copy)]
 pub struct Pushed {
     pub refusal: Refusal,
     pub judge: Judge,

@@ -7,7 +7,7 @@ use decision::{CAPACITY, suits};
 use rules::{CHECKS, Opening, Report};
 
 // Why a call was refused, or that it was not.
-#[derive(Drop)]
+#[derive(Clone, Copy)]
 pub enum Refusal {
     Nothing,
     Length,
@@ -23,7 +23,7 @@ pub enum Refusal {
 }
 
 // A judge: its capacity, how many records it has taken, of how many events, the opening's numbers, and the reports in printing order.
-#[derive(Drop)]
+#[derive(Clone, Copy)]
 pub struct Judge {
     pub capacity: usize,
     pub count: usize,
@@ -33,7 +33,7 @@ pub struct Judge {
 }
 
 // What a test of the judge gives: whether it holds, and the judge as it was given.
-#[derive(Drop)]
+#[derive(Clone, Copy)]
 pub struct Tested {
     pub holds: bool,
     pub judge: Judge,

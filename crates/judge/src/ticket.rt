@@ -6,7 +6,7 @@ use history::log::append;
 use record::limits::RECORD_SIZE;
 
 // What a preview gives and a commit takes.
-#[derive(Drop)]
+#[derive(Clone, Copy)]
 pub struct Ticket {
     pub count: usize,
     pub rec: [u8; RECORD_SIZE],

@@ -13,7 +13,7 @@ use rows::{ROWS, read_rows};
 use rules::Opening;
 
 // What a whole trace gives: the first refusal, the number of the record that it came at, and the judge.
-#[derive(Drop)]
+#[derive(Clone, Copy)]
 pub struct Traced {
     pub refusal: Refusal,
     pub at: usize,
@@ -21,7 +21,7 @@ pub struct Traced {
 }
 
 // What a trace's records came to: the number of the first refusal and of its record, how many were taken, and of how many events.
-#[derive(Drop)]
+#[derive(Clone, Copy)]
 struct Fed {
     refusal: u64,
     at: usize,

@@ -13,7 +13,7 @@ use record::key::key;
 use record::number::{wide32, wide64};
 
 // What a start names.
-#[derive(Drop)]
+#[derive(Clone, Copy)]
 pub enum Group {
     Named(u64),
     Unnamed,

@@ -23,14 +23,14 @@ use record::key::key_less;
 use record::named::NodeId;
 
 // Which ranges may not be met: those other than one, or those that no start in the record names.
-#[derive(Drop)]
+#[derive(Clone, Copy)]
 pub enum Others {
     Than(u64),
     NotNamed(u64),
 }
 
 // The range that was met.
-#[derive(Drop)]
+#[derive(Clone, Copy)]
 pub enum Meeting {
     Range(u64),
     Apart,

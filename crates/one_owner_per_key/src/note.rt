@@ -18,7 +18,7 @@ use record::field;
 use record::named::{Node, NodeId};
 
 // What is written of a record: whether it newly holds its range, with the one before it that did; its node's latest end.
-#[derive(Drop)]
+#[derive(Clone, Copy)]
 pub struct Cells {
     pub newly: u64,
     pub ended: u64,

@@ -4,7 +4,7 @@ ghost use Rattle.petalchurn.specs.Lookups.{answer_of};
 
 // What a look-up gives: the refusal's number, and the value, which is 0 where the call is refused.
 #[repr(C)]
-#[derive(Drop)]
+#[derive(Clone, Copy)]
 pub struct Answer {
     pub refusal: u64,
     pub value: u64,

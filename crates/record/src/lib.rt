@@ -1,4 +1,6 @@
 // The 368-byte record of a trace: its numbers and keys where they lie, and its fields.
+#![tactic(auto)]
+
 pub mod field;
 pub mod key;
 pub mod limits;

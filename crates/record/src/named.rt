@@ -1,26 +1,26 @@
 // The named values of a record: the numbers of nodes, ranges and servers, and the sub-codes of kinds 1, 2 and 3.
 
 // A node's number, as the Rust's NodeId.
-#[derive(Drop)]
+#[derive(Clone, Copy)]
 pub struct NodeId(pub u32);
 
 // A range's number, as the Rust's RangeId.
-#[derive(Drop)]
+#[derive(Clone, Copy)]
 pub struct RangeId(pub u64);
 
 // A server's number: a node's number becomes one only through the node's latest RaftRecovered.
-#[derive(Drop)]
+#[derive(Clone, Copy)]
 pub struct ServerId(pub u64);
 
 // The node that wrote a record, where the record is marked with one.
-#[derive(Drop)]
+#[derive(Clone, Copy)]
 pub enum Node {
     Marked(NodeId),
     Missing,
 }
 
 // What created a range: kind 1's sub-code.
-#[derive(Drop)]
+#[derive(Clone, Copy)]
 pub enum RangeCause {
     Bootstrap,
     Split,
@@ -28,7 +28,7 @@ pub enum RangeCause {
 }
 
 // A descriptor's state: kind 2's sub-code.
-#[derive(Drop)]
+#[derive(Clone, Copy)]
 pub enum RangeState {
     Live,
     Merging,
@@ -36,7 +36,7 @@ pub enum RangeState {
 }
 
 // What applying an entry did: kind 3's sub-code.
-#[derive(Drop)]
+#[derive(Clone, Copy)]
 pub enum ApplyEffect {
     Applied,
     OutOfSpan,

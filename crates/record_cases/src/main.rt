@@ -1,5 +1,7 @@
 // Hand-made records: each kind's, each refusal's and each boundary's of document 01's "Records", with the refusal's number,
 // or 0 where the form is sound. The file stdout is written from the document.
+#![tactic(auto)]
+
 use form::{form_of, number_of};
 use libc::STDOUT_FILENO;
 

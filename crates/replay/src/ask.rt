@@ -5,7 +5,7 @@ use judge::lookup::{Looked, Question};
 use judge::state::Judge;
 
 // A stored question: which look-up, and its two numbers.
-#[derive(Drop)]
+#[derive(Clone, Copy)]
 struct Stored {
     what: u64,
     first: u64,
@@ -13,7 +13,7 @@ struct Stored {
 }
 
 // An answer: the judge, the number of words that it has, and whether it was not refused.
-#[derive(Drop)]
+#[derive(Clone, Copy)]
 struct Answer {
     judge: Judge,
     words: u64,
@@ -21,7 +21,7 @@ struct Answer {
 }
 
 // A judge, and whether its answers were the stored ones.
-#[derive(Drop)]
+#[derive(Clone, Copy)]
 struct Asked {
     judge: Judge,
     right: bool,

@@ -1,5 +1,7 @@
 // Runs the stored vectors, which hold the Rust's answers and document 01's refusals, and says how many of them came
 // out otherwise: `form.bin` through the record form, `traces.bin` through the judge.
+#![tactic(auto)]
+
 use libc::STDOUT_FILENO;
 use tally::Tally;
 

@@ -11,14 +11,14 @@ use record::limits::RECORD_SIZE;
 use rules::{CHECKS, Report};
 
 // A judge, and whether its calls were refused and taken as they should be.
-#[derive(Drop)]
+#[derive(Clone, Copy)]
 pub struct Taken {
     pub judge: Judge,
     pub right: bool,
 }
 
 // What the preview of a whole record left: the judge, the ticket, and whether it showed what it should.
-#[derive(Drop)]
+#[derive(Clone, Copy)]
 struct Shown {
     judge: Judge,
     ticket: Ticket,

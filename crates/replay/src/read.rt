@@ -2,7 +2,7 @@
 use record::number::{u64_at, wide64};
 
 // A number, and whether all its bytes were there.
-#[derive(Drop)]
+#[derive(Clone, Copy)]
 pub struct Number {
     pub value: u64,
     pub there: bool,

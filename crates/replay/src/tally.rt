@@ -1,7 +1,7 @@
 // What an entry of a file turned out to be, and how many were right and wrong.
 
 // After an entry that is broken nothing says where the next one begins.
-#[derive(Drop)]
+#[derive(Clone, Copy)]
 pub enum Outcome {
     Right,
     Wrong,
@@ -9,7 +9,7 @@ pub enum Outcome {
     End,
 }
 
-#[derive(Drop)]
+#[derive(Clone, Copy)]
 pub struct Tally {
     pub right: u64,
     pub wrong: u64,

@@ -12,26 +12,26 @@ use rows::pass;
 use rules::{CHECKS, Evidence, Opening, Report, Verdict};
 
 // What was read of stored reports, and whether all its bytes were there.
-#[derive(Drop)]
+#[derive(Clone, Copy)]
 struct ReadEvidence {
     evidence: Evidence,
     there: bool,
 }
 
-#[derive(Drop)]
+#[derive(Clone, Copy)]
 struct ReadReport {
     report: Report,
     there: bool,
 }
 
-#[derive(Drop)]
+#[derive(Clone, Copy)]
 struct ReadReports {
     reports: [Report; CHECKS],
     there: bool,
 }
 
 // A trace up to some record: the judge, the stored reports, and whether everything came out as stored.
-#[derive(Drop)]
+#[derive(Clone, Copy)]
 struct Run {
     judge: Judge,
     reports: [Report; CHECKS],

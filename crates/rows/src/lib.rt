@@ -1,5 +1,7 @@
 // Reports as words: seven for each check, in printing order. The judge's core writes a fault there, and a host keeps them between
 // calls.
+#![tactic(auto)]
+
 ghost use Rattle.std.specs.Prelude.{◌≡◌, ◌+◌, ◌*◌, ◌≤◌, ◌<◌, length, get_or};
 ghost use Rattle.std.proofs.lemmas.List.Edits.{sets};
 ghost use Rattle.rules.specs.Reports.{passed};

@@ -1,5 +1,7 @@
 // The types that the rules and the crates above share: what a check says of a record, and what it reports of a trace. And of the table
 // of checks (specs/Checks.antt) what code needs to know.
+#![tactic(auto)]
+
 ghost use Rattle.std.specs.Prelude.{◌≡◌, ◌<◌};
 ghost use Rattle.rules.specs.Cases.{is_fault};
 ghost use Rattle.rules.specs.Checks.{check_count, check_at};
@@ -11,13 +13,13 @@ pub const CHECKS: usize = 8;
 const KINDS: [usize; CHECKS] = [3, 1, 1, 1, 2, 2, 3, 4];
 
 // The numbers that an opening fixes: the tenant that stands for `RAFT_TENANT`.
-#[derive(Drop)]
+#[derive(Clone, Copy)]
 pub struct Opening {
     pub tenant: u64,
 }
 
 // The five numbers of a fault, missing ones 0.
-#[derive(Drop)]
+#[derive(Clone, Copy)]
 pub struct Evidence {
     pub e0: u64,
     pub e1: u64,
@@ -27,7 +29,7 @@ pub struct Evidence {
 }
 
 // What a check says of a record, judged by it and those before: nothing, or a fault with its kind and evidence.
-#[derive(Drop)]
+#[derive(Clone, Copy)]
 pub enum Case {
     Clear,
     Fault(u8, Evidence),
@@ -43,14 +45,14 @@ pub fn is_fault(case: Case) -> bool
     }
 }
 
-#[derive(Drop)]
+#[derive(Clone, Copy)]
 pub enum Verdict {
     Pass,
     Faulted(u8),
 }
 
 // What a check reports of a trace: a pass, or its first fault's kind, with that fault's position and evidence beside it.
-#[derive(Drop)]
+#[derive(Clone, Copy)]
 pub struct Report {
     pub verdict: Verdict,
     pub at: u64,
@@ -58,7 +60,7 @@ pub struct Report {
 }
 
 // The number of the record that a look-up finds.
-#[derive(Drop)]
+#[derive(Clone, Copy)]
 pub enum Found {
     At(u64),
     Nothing,

@@ -4,7 +4,7 @@ ghost use Rattle.sheet.specs.Calls.{Held};
 use libc::{EINTR, STDIN_FILENO};
 
 // What reading came to: so many bytes at the front of the buffer, or that a read failed.
-#[derive(Drop)]
+#[derive(Clone, Copy)]
 pub enum Input {
     Bytes(usize),
     Failed,

@@ -1,4 +1,6 @@
 // Prints the sheet of the trace on standard input, judged with capacity 96 and tenant 0.
+#![tactic(auto)]
+
 mod input;
 mod output;
 

@@ -6,7 +6,7 @@ use crate::input::TRIES;
 use libc::{EINTR, STDOUT_FILENO};
 
 // What writing came to: all was taken, or a write failed after so many bytes.
-#[derive(Drop)]
+#[derive(Clone, Copy)]
 pub enum Written {
     All,
     Stopped(usize),

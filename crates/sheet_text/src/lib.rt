@@ -1,4 +1,6 @@
 // The printed sheet of a trace: its text, written to the front of a buffer.
+#![tactic(auto)]
+
 mod append;
 mod line;
 mod name;

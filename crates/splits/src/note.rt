@@ -27,7 +27,7 @@ use record::named::{Node, NodeId};
 
 // What is written of a record: the cells; the record that names the right range of the split it registers; whether it
 // records an index.
-#[derive(Drop)]
+#[derive(Clone, Copy)]
 pub struct Cells {
     pub server: u64,
     pub restated: u64,

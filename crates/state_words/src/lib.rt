@@ -1,4 +1,6 @@
 // A judge as the words that a host keeps between calls: a header, and seven words for each check. Read, written, and its rows copied.
+#![tactic(auto)]
+
 ghost use Rattle.std.specs.Prelude.{◌≡◌, ◌++◌, ◌≤◌, length, drop};
 ghost use Rattle.rows.specs.Rows.{rows_size};
 ghost use Rattle.state_words.specs.StateWords.{header_size, state_size, state_words, judge_in, is_state, IsState};

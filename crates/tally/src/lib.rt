@@ -1,5 +1,7 @@
 // The campaign tally: for each check how many traces passed and how many faulted by kind, with traces and records taken in total. It
 // is kept in bytes, and a finished judge is entered into them.
+#![tactic(auto)]
+
 mod count;
 mod place;
 mod raise;
@@ -23,7 +25,7 @@ use rules::CHECKS;
 pub const TALLY_SIZE: usize = WIDTH * PLACES * RECORDS;
 
 // Why an entry was refused, or that it was not.
-#[derive(Drop)]
+#[derive(Clone, Copy)]
 pub enum Refusal {
     Nothing,
     Unfit,
@@ -32,7 +34,7 @@ pub enum Refusal {
 }
 
 // What an entry gives: its refusal, and the judge as it was given.
-#[derive(Drop)]
+#[derive(Clone, Copy)]
 pub struct Entered {
     pub refusal: Refusal,
     pub judge: Judge,

@@ -1,4 +1,6 @@
 // A ticket as the bytes that a host keeps between a preview and its commit: the count, least byte first, and the record.
+#![tactic(auto)]
+
 ghost use Rattle.std.specs.Prelude.{◌≡◌, ◌++◌, ◌≤◌, length, drop, replicate};
 ghost use Rattle.ticket_bytes.specs.TicketBytes.{ticket_size, ticket_bytes, is_current};
 

@@ -1,0 +1,12 @@
+-- What is owed after all records was owed after i.
+use Prim.Native.Nat.{◌≤◌}
+use Rattle.history.specs.Logs.{hist}
+use Rattle.splits.specs.Columns.{Known}
+use Rattle.debts.proofs.Debts.{Owes}
+use Rattle.debts.proofs.debt.debt_of.Given as goal
+
+abbrev pub invariant-loop-i : goal.invariant-loop-i
+invariant-loop-i l = (l.i ≤ l.count) × (Known l.cap (hist l.log l.count) l.work → Owes l.log l.node.0 l.right l.count l.i)
+
+abbrev pub decreases-loop-i : goal.decreases-loop-i
+decreases-loop-i l = l.i

@@ -1,0 +1,100 @@
+-- By the kind of the record, where it is the node's own.
+use mathlib.Core.Path.{sym, ap, ◌∙◌}
+use native.Mathlib.Omega.{arith}
+use borrow.Author.Tests.{not-true, not-false}
+use Rattle.record.specs.declared.named.ApplyEffect.TheVariants.{Took}
+use Rattle.record.specs.Records.{TraceRecord}
+use Rattle.rules.specs.History.{is_by}
+use Rattle.rules.specs.GenerationsRise.{has_effect}
+use Rattle.history.specs.Logs.{record_at}
+use Rattle.history.proofs.Logs.{record_bytes, record_length}
+use Rattle.debts.proofs.Debts.{applies_test, records_test, own_other, own_applied, own_neither, own_covered}
+use Rattle.debts.proofs.debt.own_debt.Goals as goal
+
+pub is_by-requires : goal.is_by-requires
+is_by-requires c =
+    record_length c.args.log.now c.args.at c.record_at-rec.ensures
+    (omega (arith, c.requires.0, c.requires.1))
+
+pub returns-then-not-is_by : goal.returns-then-not-is_by
+returns-then-not-is_by c =
+    let a = c.args in
+    let y = record_bytes a.log.now a.at c.record_at-rec.ensures in
+    record {
+      within = omega arith;
+      is = (λ ix. own_other a.log.now a.at a.node.0 a.right
+          (sym (c.is_by.ensures ∙ ap (λ (z : TraceRecord). is_by a.node.0 z) y) ∙ not-true c.is_by.result c.if-not-is_by.true), );
+    }
+
+pub kind-requires : goal.kind-requires
+kind-requires c =
+    record_length c.args.log.now c.args.at
+    c.record_at-rec.ensures
+    (omega (arith, c.requires.0, c.requires.1))
+
+pub has_taken-requires : goal.has_taken-requires
+has_taken-requires c =
+    record_length c.args.log.now
+    c.args.at c.record_at-rec.ensures
+    (omega (arith, c.requires.0, c.requires.1))
+
+pub returns-then-kind-has_taken : goal.returns-then-kind-has_taken
+returns-then-kind-has_taken c =
+    let a = c.args in
+    let y = record_bytes a.log.now a.at c.record_at-rec.ensures in
+    let b =
+    sym (c.is_by.ensures ∙ ap (λ (z : TraceRecord). is_by a.node.0 z) y)
+    ∙ not-false c.is_by.result c.if-not-is_by.false in
+    let t =
+    applies_test (record_at a.log.now a.at) (c.kind.ensures ∙ ap (λ (z : TraceRecord). z.kind) y)
+    (c.has_taken.ensures ∙ ap (λ (z : TraceRecord). has_effect Took z) y) c.if-kind-has_taken.true in
+    record {
+      within = omega (arith, c.applied_split.ensures.within);
+      is = (λ ix. own_applied a.log.now a.at a.node.0 a.right b t (c.server_of-server.ensures ix)
+          (c.applied_split.ensures.is ix), );
+    }
+
+pub kind-requires-2 : goal.kind-requires-2
+kind-requires-2 c =
+    record_length c.args.log.now
+    c.args.at
+    c.record_at-rec.ensures
+    (omega (arith, c.requires.0, c.requires.1))
+
+pub returns-then-kind-is_restated : goal.returns-then-kind-is_restated
+returns-then-kind-is_restated c =
+    let a = c.args in
+    let y = record_bytes a.log.now a.at c.record_at-rec.ensures in
+    let b =
+    sym (c.is_by.ensures ∙ ap (λ (z : TraceRecord). is_by a.node.0 z) y)
+    ∙ not-false c.is_by.result
+    c.if-not-is_by.false in
+    let t =
+    applies_test (record_at a.log.now a.at) (c.kind.ensures ∙ ap (λ (z : TraceRecord). z.kind) y)
+    (c.has_taken.ensures ∙ ap (λ (z : TraceRecord). has_effect Took z) y)
+    c.if-kind-has_taken.false in
+    record {
+      within = c.covered_split.ensures.within;
+      is = (λ ix. own_covered a.log.now a.at a.node.0 a.right b t
+          (records_test (record_at a.log.now a.at) (c.kind-2.ensures ∙ ap (λ (z : TraceRecord). z.kind) y)
+          (c.is_restated.ensures ix) c.if-kind-is_restated.true)
+          (c.server_of-server.ensures ix) (c.covered_split.ensures.is ix), );
+    }
+
+pub returns : goal.returns
+returns c =
+    let a = c.args in
+    let y = record_bytes a.log.now a.at c.record_at-rec.ensures in
+    let b =
+    sym (c.is_by.ensures ∙ ap (λ (z : TraceRecord). is_by a.node.0 z) y)
+    ∙ not-false c.is_by.result
+    c.if-not-is_by.false in
+    let t =
+    applies_test (record_at a.log.now a.at) (c.kind.ensures ∙ ap (λ (z : TraceRecord). z.kind) y)
+    (c.has_taken.ensures ∙ ap (λ (z : TraceRecord). has_effect Took z) y) c.if-kind-has_taken.false in
+    record {
+      within = omega arith;
+      is = (λ ix. own_neither a.log.now a.at a.node.0 a.right b t
+          (records_test (record_at a.log.now a.at) (c.kind-2.ensures ∙ ap (λ (z : TraceRecord). z.kind) y)
+          (c.is_restated.ensures ix) c.if-kind-is_restated.false), );
+    }

@@ -1,0 +1,19 @@
+-- The record is its own, or the walk finds one that can apply a split.
+use Rattle.record.specs.Records.{decode}
+use Rattle.debts.proofs.Parts.{part_own, part_found}
+use Rattle.debts.proofs.owed.has_part.Goals as goal
+
+pub returns-then-is_by : goal.returns-then-is_by
+returns-then-is_by c =
+    let a =
+    c.args in λ ix. part_own a.log.now a.top a.node.0 (decode a.rec.now)
+    c.is_by.ensures c.if-is_by.true
+
+pub latest_asked-requires : goal.latest_asked-requires
+latest_asked-requires c = let p = c.requires in (p.0, p.1.0)
+
+pub returns : goal.returns
+returns c =
+    let a = c.args in
+    λ ix. part_found a.log.now a.top a.node.0 (decode a.rec.now) c.is_by.ensures c.if-is_by.false
+    c.parent_of-parent.ensures (c.latest_asked.ensures.latest ix)

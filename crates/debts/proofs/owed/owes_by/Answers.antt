@@ -1,0 +1,96 @@
+-- The latest coming after the registering and the latest cancel; else the registering itself, where it is later than the cancel.
+use mathlib.Core.Path.{ap, ◌∙◌}
+use native.Mathlib.Omega.{arith}
+use mathlib.Core.Logic.{inl, inr, ⊎_elim}
+use Prim.Native.Nat.{ℕ}
+use Rattle.record.specs.Records.{TraceRecord, decode}
+use Rattle.history.specs.Logs.{hist}
+use Rattle.history.proofs.Logs.{record_bytes, record_length}
+use Rattle.one_owner_per_key.specs.Numbers.{latest_number}
+use Rattle.splits.specs.Splits.{parent_by}
+use Rattle.debts.specs.Walk.{above, comes, owes_first}
+use Rattle.debts.proofs.Comings.{floor_is, owes_coming, owes_cancelled, owes_at_first}
+use Rattle.debts.proofs.owed.owes_by.Goals as goal
+
+pub record_at-split-requires : goal.record_at-split-requires
+record_at-split-requires c = omega (arith, c.requires.0)
+
+pub parent_of-parent-requires : goal.parent_of-parent-requires
+parent_of-parent-requires c =
+    record_length c.args.log.now c.args.t c.record_at-split.ensures
+    (omega (arith, c.requires.0))
+
+pub b-index-requires : goal.b-index-requires
+b-index-requires c =
+    record_length c.args.log.now c.args.t c.record_at-split.ensures
+    (omega (arith, c.requires.0))
+
+pub latest_coming-requires : goal.latest_coming-requires
+latest_coming-requires c = (
+  c.requires.0,
+  record_length c.args.log.now
+      c.args.t c.record_at-split.ensures
+      (omega (arith, c.requires.0)),
+
+)
+
+pub returns-then-latest_coming-ne0 : goal.returns-then-latest_coming-ne0
+returns-then-latest_coming-ne0 c =
+    let a = c.args in
+    let f = c.if-cancel-t.floor in
+    let y = c.record_at-split.result.now in
+    λ ix. owes_coming a.log.now a.count a.node.0 a.t a.cancel
+    (floor_is _ _ _ (⊎_elim (λ w. inl (w.0.taken, w.1)) (λ w. inr (w.0.left, w.1)) c.if-cancel-t.branch)) (c.latest_coming.ensures ix
+    ∙ ap (λ (m : ℕ). above f (latest_number (comes a.node.0 m c.b-index.result (decode y).voters)
+    (hist a.log.now a.count))) c.parent_of-parent.ensures
+    ∙ ap (λ (m : ℕ). above f (latest_number (comes a.node.0 (parent_by (decode y)) m (decode y).voters) (hist a.log.now a.count)))
+    c.b-index.ensures
+    ∙ ap (λ (z : TraceRecord). above f (latest_number (comes a.node.0 (parent_by z) z.b z.voters) (hist a.log.now a.count)))
+    (record_bytes a.log.now a.t c.record_at-split.ensures)) c.if-latest_coming-ne0.true
+
+pub returns-then-t-cancel : goal.returns-then-t-cancel
+returns-then-t-cancel c =
+    let a = c.args in
+    let f = c.if-cancel-t.floor in
+    let y = c.record_at-split.result.now in
+    λ ix. owes_cancelled a.log.now a.count a.node.0 a.t a.cancel
+    (floor_is _ _ _ (⊎_elim (λ w. inl (w.0.taken, w.1)) (λ w. inr (w.0.left, w.1)) c.if-cancel-t.branch))
+    (c.latest_coming.ensures ix
+    ∙ ap (λ (m : ℕ). above f (latest_number (comes a.node.0 m c.b-index.result (decode y).voters)
+    (hist a.log.now a.count))) c.parent_of-parent.ensures
+    ∙ ap (λ (m : ℕ). above f (latest_number (comes a.node.0 (parent_by (decode y)) m (decode y).voters) (hist a.log.now a.count)))
+    c.b-index.ensures
+    ∙ ap (λ (z : TraceRecord). above f (latest_number (comes a.node.0 (parent_by z) z.b z.voters) (hist a.log.now a.count)))
+    (record_bytes a.log.now a.t c.record_at-split.ensures)) c.if-latest_coming-ne0.false c.if-t-cancel.true
+
+pub owes_first-requires : goal.owes_first-requires
+owes_first-requires c = (
+  c.requires.0,
+  (
+    omega (arith, c.requires.1),
+    record_length
+        c.args.log.now
+        c.args.t
+        c.record_at-split.ensures
+        (omega (arith, c.requires.0)),
+  ),
+
+)
+
+pub returns : goal.returns
+returns c =
+    let a = c.args in
+    let f = c.if-cancel-t.floor in
+    let y = c.record_at-split.result.now in
+    λ ix. owes_at_first a.log.now a.count a.node.0 a.t a.cancel
+    (floor_is _ _ _ (⊎_elim (λ w. inl (w.0.taken, w.1)) (λ w. inr (w.0.left, w.1)) c.if-cancel-t.branch))
+    (c.latest_coming.ensures ix
+    ∙ ap (λ (m : ℕ). above f (latest_number (comes a.node.0 m c.b-index.result (decode y).voters)
+    (hist a.log.now a.count))) c.parent_of-parent.ensures
+    ∙ ap (λ (m : ℕ). above f (latest_number (comes a.node.0 (parent_by (decode y)) m (decode y).voters) (hist a.log.now a.count)))
+    c.b-index.ensures
+    ∙ ap (λ (z : TraceRecord). above f (latest_number (comes a.node.0 (parent_by z) z.b z.voters) (hist a.log.now a.count)))
+    (record_bytes a.log.now a.t c.record_at-split.ensures)) c.if-latest_coming-ne0.false
+    c.if-t-cancel.false
+    (c.owes_first.ensures ix ∙ ap (owes_first a.log.now a.t a.node.0)
+    (record_bytes a.log.now a.t c.record_at-split.ensures))

@@ -1,0 +1,36 @@
+-- The same value is no fault; one of a lower generation asks what is ahead; any other is kind 3.
+use mathlib.Core.Path.{sym, ◌∙◌}
+use Prim.Native.Nat.{◌≤◌, ◌<◌}
+use native.Mathlib.Omega.{arith}
+use Rattle.record.specs.Records.{decode}
+use Rattle.rules.specs.Descriptors.{standing}
+use Rattle.history.specs.Logs.{hist}
+use Rattle.descriptors.proofs.Judged.{differs_ahead, differs_behind}
+use Rattle.descriptors.proofs.check.differing_case.Goals as goal
+
+pub returns-then-same_held : goal.returns-then-same_held
+returns-then-same_held c = λ k. rw (sym c.same_held.ensures.answer ∙ c.if-same_held.true)
+
+pub returns-then-d : goal.returns-then-d
+returns-then-d c =
+    let if2 = c in
+    let if1 = if2 in
+    let args = if1.args in
+    let value = decode args.value.now in
+    let stated = decode args.stated.now in
+    let vs = standing (hist args.log.now args.count) in
+    let other = sym if1.same_held.ensures.answer ∙ if1.if-same_held.false in
+    let lower : value.d < stated.d = omega (arith, if2.d.ensures, if2.d-2.ensures, if2.if-d.true) in
+    λ k. differs_ahead value stated args.index vs other lower c.a.ensures c.d-then-d.ensures (c.ahead_case.ensures k)
+
+pub returns : goal.returns
+returns c =
+    let if2 = c in
+    let if1 = if2 in
+    let args = if1.args in
+    let value = decode args.value.now in
+    let stated = decode args.stated.now in
+    let vs = standing (hist args.log.now args.count) in
+    let other = sym if1.same_held.ensures.answer ∙ if1.if-same_held.false in
+    let not_lower : stated.d ≤ value.d = omega (arith, if2.d.ensures, if2.d-2.ensures, if2.if-d.false) in
+    λ k. differs_behind value stated args.index vs other not_lower c.a-2.ensures c.fault.ensures

@@ -1,0 +1,18 @@
+-- A walk along the chain of node and range: the first record that tells the applied index is the latest that does, since
+-- records outside the bucket tell none.
+use Prim.Native.Nat.{◌-◌, ◌≤◌}
+use Rattle.rules.specs.Descriptors.{applied}
+use Rattle.history.proofs.Chains.{Stands}
+use Rattle.history.specs.Buckets.{bucket_by_two}
+use Rattle.history.specs.Logs.{hist}
+use Rattle.descriptors.specs.Columns.{DescriptorsIndexed, applied_bucket}
+use Rattle.descriptors.proofs.role.applied_of.Given as goal
+
+abbrev pub invariant-loop-i : goal.invariant-loop-i
+invariant-loop-i l =
+    (l.i ≤ l.count)
+    × (DescriptorsIndexed l.cap (hist l.log l.count) l.work
+    → Stands (applied_bucket l.cap) (bucket_by_two l.cap l.id l.range) l.log (λ n. applied l.id l.range (hist l.log n)) (applied l.id l.range (hist l.log l.count)) l.i)
+
+abbrev pub decreases-loop-i : goal.decreases-loop-i
+decreases-loop-i l = l.i

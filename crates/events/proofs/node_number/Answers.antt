@@ -1,0 +1,12 @@
+-- `node_number`: the mark is taken apart.
+use mathlib.Core.Path.{sym, ap, ◌∙◌}
+use Rattle.events.specs.Numbers.{node_number}
+use Rattle.events.proofs.node_number.Goals as goal
+
+pub returns-in-Marked : goal.returns-in-Marked
+returns-in-Marked c =
+    let m = c in
+    sym (ap node_number (sym m.node.ensures ∙ m.in-Marked.is))
+
+pub returns-in-Missing : goal.returns-in-Missing
+returns-in-Missing c = sym (ap node_number (sym c.node.ensures ∙ c.in-Missing.is))

@@ -1,0 +1,62 @@
+-- No earlier write of the key; or the last one, which decides while there was no fault.
+use mathlib.Core.Path.{sym, ap, ◌∙◌}
+use native.Mathlib.Omega.{arith}
+use Rattle.record.specs.Keys.{Key}
+use Rattle.record.specs.Records.{TraceRecord, decode}
+use Rattle.history.specs.Logs.{hist}
+use Rattle.history.proofs.Logs.{record_length}
+use Rattle.firsts.proofs.Grants.{read_at}
+use Rattle.generations_rise.specs.Columns.{last_write_at}
+use Rattle.generations_rise.proofs.Cases.{rise_none, rise_fault_lem, rise_clear}
+use Rattle.generations_rise.proofs.check.rise_case.Goals as goal
+
+pub returns-then-n-eq0 : goal.returns-then-n-eq0
+returns-then-n-eq0 c =
+    let a = c.args in
+    λ k p. rise_none (decode a.rec.now) a.generation a.log.now a.count p
+    (c.last_write_at-n.ensures.1 k ∙ ap (λ (v : Key). last_write_at v (hist a.log.now a.count)) c.start_of.ensures)
+    c.if-n-eq0.true
+
+pub record_at-requires : goal.record_at-requires
+record_at-requires c =
+    let n = c in
+    omega (arith, n.last_write_at-n.ensures.0, n.requires.0.log-holds)
+
+pub a-by-requires : goal.a-by-requires
+a-by-requires c =
+    let n = c in
+    record_length _ _ c.record_at.ensures (omega (arith, n.last_write_at-n.ensures.0, n.requires.0.log-holds))
+
+pub returns-then-is_against : goal.returns-then-is_against
+returns-then-is_against c =
+    let w = c in
+    let n = w in
+    let s = n in
+    let a = s.args in
+    λ k p. rise_fault_lem (decode a.rec.now) a.generation a.log.now a.count p
+    (n.last_write_at-n.ensures.1 k ∙ ap (λ (v : Key). last_write_at v (hist a.log.now a.count)) n.start_of.ensures)
+    w.if-n-eq0.false
+    w.a-range.ensures
+    c.b.ensures
+    (read_at (λ (x : TraceRecord). x.a) _ _ w.record_at.ensures w.a-by.ensures)
+    (w.written_at-last.ensures a.log.now a.count (omega (arith, n.last_write_at-n.ensures.0, w.if-n-eq0.false))
+    s.requires.0.within
+    k)
+    (sym c.is_against.ensures ∙ c.if-is_against.true)
+    c.fault_of.ensures
+
+pub returns : goal.returns
+returns c =
+    let w = c in
+    let n = w in
+    let s = n in
+    let a = s.args in
+    λ k p. rise_clear (decode a.rec.now) a.generation a.log.now a.count p
+    (n.last_write_at-n.ensures.1 k ∙ ap (λ (v : Key). last_write_at v (hist a.log.now a.count)) n.start_of.ensures)
+    w.if-n-eq0.false
+    w.a-range.ensures
+    (read_at (λ (x : TraceRecord). x.a) _ _ w.record_at.ensures w.a-by.ensures)
+    (w.written_at-last.ensures a.log.now a.count (omega (arith, n.last_write_at-n.ensures.0, w.if-n-eq0.false))
+    s.requires.0.within
+    k)
+    (sym c.is_against.ensures ∙ c.if-is_against.false)

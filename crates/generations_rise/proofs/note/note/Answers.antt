@@ -1,0 +1,10 @@
+-- What the write counts as, and then the columns.
+use Rattle.history.proofs.Logs.{hist_length}
+use Rattle.generations_rise.proofs.Notes.{taken}
+use Rattle.generations_rise.proofs.note.note.Goals as goal
+
+pub returns : goal.returns
+returns c =
+    let w = c in
+    let a = w.args in
+    taken _ _ w.counts_as-w.ensures.kind w.counts_as-w.ensures.told (c.note_as.ensures _ (hist_length a.log.now a.count))

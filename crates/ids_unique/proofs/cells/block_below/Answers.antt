@@ -1,0 +1,11 @@
+-- The word as of the record before, which the column gives.
+use mathlib.Core.Path.{◌∙◌}
+use native.Mathlib.Omega.{arith}
+use Rattle.ids_unique.proofs.Blocks.{link_is, link_none}
+use Rattle.ids_unique.proofs.cells.block_below.Goals as goal
+
+pub returns-then-n-eq0 : goal.returns-then-n-eq0
+returns-then-n-eq0 c = (omega arith, λ log count l m k. link_none log l m k c.if-n-eq0.true)
+
+pub returns : goal.returns
+returns c = (c.link.ensures.0, λ log count l m k. c.link.ensures.1 ∙ link_is log l m k (omega arith))

@@ -1,0 +1,14 @@
+-- `keep`: noted, and then appended to the same log.
+use Rattle.intake.proofs.keep.keep.Goals as goal
+
+pub note-requires : goal.note-requires
+note-requires c = let p = c.requires in (p.bounds, (p.room, p.size))
+
+pub append-requires : goal.append-requires
+append-requires c = let p = c.requires in (p.holds, p.size)
+
+pub returns : goal.returns
+returns c =
+    let a = c in
+    let n = a in
+    record { appended = a.append.ensures; noted = n.note.ensures }

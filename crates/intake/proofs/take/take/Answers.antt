@@ -1,0 +1,48 @@
+-- `take`: refused, and nothing is touched; else judged and kept.
+use mathlib.Core.List.{List}
+use Prim.Native.Nat.{ℕ}
+use Rattle.rules.specs.declared.Opening.{Opening}
+use Rattle.intake.proofs.Takes.{takes_off, takes_on, keepable}
+use Rattle.intake.proofs.take.take.Goals.{After-preview-refusal, Start}
+use Rattle.intake.proofs.take.take.Goals as goal
+
+-- where the record has been judged
+module _ (c : After-preview-refusal) where
+  abbrev s : Start
+  s = c
+
+  abbrev o : Opening
+  o = record { tenant = s.args.tenant }
+
+  abbrev log : List ℕ
+  log = s.args.log.now
+
+  abbrev work : List ℕ
+  work = s.args.work.now
+
+  abbrev rows : List ℕ
+  rows = s.args.rows.now
+
+  abbrev bytes : List ℕ
+  bytes = s.args.rec.now
+
+pub returns-then-refusal-ne0 : goal.returns-then-refusal-ne0
+returns-then-refusal-ne0 c =
+    let p = c in
+    let a = (s p).args in
+    takes_off (o p) a.cap a.n a.events (log p) (work p) (rows p) (bytes p) p.preview-refusal.ensures c.if-refusal-ne0.true
+
+pub keep-requires : goal.keep-requires
+keep-requires c =
+    let i = c in
+    let p = i in
+    let a = (s p).args in
+    keepable (o p) a.cap a.n a.events (log p) (work p) (rows p) (bytes p) p.preview-refusal.ensures i.if-refusal-ne0.false
+
+pub returns : goal.returns
+returns c =
+    let k = c in
+    let i = k in
+    let p = i in
+    let a = (s p).args in
+    takes_on (o p) a.cap a.n a.events (log p) (work p) (rows p) (bytes p) p.preview-refusal.ensures i.if-refusal-ne0.false k.keep.ensures

@@ -1,0 +1,51 @@
+-- `answer`: each question by the look-back that answers it.
+use mathlib.Core.Path.{refl, ap, ◌∙◌}
+use Rattle.history.specs.Logs.{hist}
+use Rattle.history.proofs.Logs.{hist_length}
+use Rattle.judge.specs.Lookups.{found_number, truth}
+use Rattle.judge.proofs.Lookups.{valued_as, listed_as}
+use Rattle.judge.proofs.lookup.answer.Goals as goal
+
+pub returns-in-Before : goal.returns-in-Before
+returns-in-Before c =
+    let a = c.args in
+    let found = c in
+    valued_as found.in-Before.is a.out.now (λ h. refl)
+    (λ i. c.found_number.ensures ∙ ap found_number (found.before-in-Before.ensures i.descriptors))
+
+pub returns-in-At : goal.returns-in-At
+returns-in-At c =
+    let a = c.args in
+    let found = c in
+    valued_as found.in-At.is a.out.now (λ h. refl)
+    (λ i. c.found_number-in-At.ensures ∙ ap found_number (found.at.ensures i.descriptors))
+
+pub returns-in-FirstAtGeneration : goal.returns-in-FirstAtGeneration
+returns-in-FirstAtGeneration c =
+    let a = c.args in
+    let found = c in
+    valued_as found.in-FirstAtGeneration.is a.out.now (λ h. refl)
+    (λ i. c.found_number-in-FirstAtGeneration.ensures ∙ ap found_number (found.first_at_generation-first.ensures i.descriptors))
+
+pub returns-in-Statements : goal.returns-in-Statements
+returns-in-Statements c =
+    let a = c.args in
+    valued_as c.in-Statements.is a.out.now (λ h. refl)
+    (λ i. c.statements.ensures (hist a.log.now a.n) (hist_length a.log.now a.n) i.descriptors)
+
+pub returns-in-IsEmpty : goal.returns-in-IsEmpty
+returns-in-IsEmpty c =
+    let a = c.args in
+    let told = c in
+    valued_as told.in-IsEmpty.is a.out.now (λ h. refl)
+    (λ i. c.truth.ensures ∙ ap truth (told.is_empty.ensures (hist a.log.now a.n) (hist_length a.log.now a.n) i.descriptors))
+
+pub returns-in-HoldersOf : goal.returns-in-HoldersOf
+returns-in-HoldersOf c =
+    let h = c.holders_of in
+    listed_as c.in-HoldersOf.is refl h.ensures.kept (λ i. h.ensures.listed_in i.ids)
+
+pub returns-in-Blocks : goal.returns-in-Blocks
+returns-in-Blocks c =
+    let b = c.blocks-in-Blocks in
+    listed_as c.in-Blocks.is refl b.ensures.kept (λ i. b.ensures.listed_in i.ids)

@@ -1,0 +1,20 @@
+-- `judge_trace`: an opening's refusal ends it; else the trace is fed to the judge that was opened.
+use Rattle.judge.proofs.Refusals.{refuses}
+use Rattle.judge.proofs.Traces.{traced_on, traced_off}
+use Rattle.judge.proofs.state.Judge.judge_trace.Goals as goal
+
+pub returns-in-Nothing : goal.returns-in-Nothing
+returns-in-Nothing c =
+    let f = c in
+    let told = f in
+    let opened = told in
+    let a = opened.args in
+    let o = opened.«open» in
+    traced_on a.opening a.log.now a.work.now a.trace.now o.result o.ensures f.fed.result told.in-Nothing.is
+    f.fed.ensures
+
+pub returns-in_default : goal.returns-in_default
+returns-in_default c =
+    let a = c.args in
+    let o = c.«open» in
+    traced_off a.opening a.log.now a.work.now a.trace.now o.result o.ensures (refuses o.result.refusal c.in_default.keys2)

@@ -1,0 +1,13 @@
+-- The names that are not surpassed are looked at newest first, each led to from the word before the last one's place.
+use Prim.Native.Nat.{◌≤◌}
+use Rattle.record.specs.Records.{decode}
+use Rattle.history.specs.Logs.{hist}
+use Rattle.meta_never_goes_back.specs.Columns.{MetaIndexed}
+use Rattle.meta_never_goes_back.specs.Walk.{Passed}
+use Rattle.meta_never_goes_back.proofs.opposed.any_opposed.Given as goal
+
+abbrev pub invariant-loop-i : goal.invariant-loop-i
+invariant-loop-i l = (l.i ≤ l.count) × (MetaIndexed l.cap (hist l.log l.count) l.work → Passed (decode l.rec) l.log l.count l.i)
+
+abbrev pub decreases-loop-i : goal.decreases-loop-i
+decreases-loop-i l = l.i

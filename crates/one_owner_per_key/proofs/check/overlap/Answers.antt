@@ -1,0 +1,47 @@
+-- Without a node nothing; kinds 1 and 2 by the lowest other range that is met.
+use mathlib.Core.Path.{sym, ap, ◌∙◌}
+use Rattle.record.specs.Records.{decode}
+use Rattle.history.specs.Logs.{hist}
+use borrow.Author.Tests.{not-true, not-false}
+use Rattle.one_owner_per_key.specs.Answers.{rangeIn}
+use Rattle.rules.proofs.Owners.{overlap_unmarked, overlap_other, overlap_met, overlap_apart}
+use Rattle.one_owner_per_key.proofs.check.overlap.Goals as goal
+
+pub returns-in_default : goal.returns-in_default
+returns-in_default c =
+    let a = c.args in
+    let x = decode a.rec.now in
+    let h = hist a.log.now a.count in
+    λ ix. overlap_unmarked x h (sym c.node-marked.ensures ∙ c.in_default.is)
+
+pub returns-then-not-is_holding : goal.returns-then-not-is_holding
+returns-then-not-is_holding c =
+    let a = c.args in
+    let x = decode a.rec.now in
+    let h = hist a.log.now a.count in
+    λ ix. overlap_other x h (sym c.node-marked.ensures ∙ c.in-Marked.is)
+    (sym c.is_holding.ensures ∙ not-true c.is_holding.result c.if-not-is_holding.true)
+
+pub returns-in-Range : goal.returns-in-Range
+returns-in-Range c =
+    let a = c.args in
+    let x = decode a.rec.now in
+    let h = hist a.log.now a.count in
+    λ ix. c.fault_of.ensures ∙ overlap_met x h (sym
+    c.node-marked.ensures
+    ∙ c.in-Marked.is)
+    (sym c.is_holding.ensures
+    ∙ not-false c.is_holding.result c.if-not-is_holding.false)
+    c.a-range.ensures (c.lowest_meeting-met.ensures ix)
+    (ap rangeIn c.in-Range.is)
+
+pub returns-in-Apart : goal.returns-in-Apart
+returns-in-Apart c =
+    let a = c.args in
+    let x = decode a.rec.now in
+    let h = hist a.log.now a.count in
+    λ ix. overlap_apart x h (sym c.node-marked.ensures
+    ∙ c.in-Marked.is)
+    (sym c.is_holding.ensures
+    ∙ not-false c.is_holding.result c.if-not-is_holding.false)
+    c.a-range.ensures (c.lowest_meeting-met.ensures ix) (ap rangeIn c.in-Apart.is)

@@ -1,0 +1,46 @@
+-- Without a node nothing; kind 1 by what the node holds.
+use mathlib.Core.Path.{sym, ◌∙◌}
+use Rattle.record.specs.Records.{decode}
+use Rattle.history.specs.Logs.{hist}
+use borrow.Author.Tests.{eq-eqb, ne_eqb}
+use Rattle.one_owner_per_key.proofs.Checks.{found_held, lost_held}
+use Rattle.rules.proofs.Owners.{twice_unmarked, twice_other, twice_held, twice_free}
+use Rattle.one_owner_per_key.proofs.check.twice.Goals as goal
+
+pub returns-in_default : goal.returns-in_default
+returns-in_default c =
+    let a = c.args in
+    let x = decode a.rec.now in
+    let h = hist a.log.now a.count in
+    λ ix. twice_unmarked x h (sym c.node-marked.ensures ∙ c.in_default.is)
+
+pub returns-then-kind-ne1 : goal.returns-then-kind-ne1
+returns-then-kind-ne1 c =
+    let a = c.args in
+    let x = decode a.rec.now in
+    let h = hist a.log.now a.count in
+    λ ix. twice_other x h (sym c.node-marked.ensures ∙ c.in-Marked.is)
+    (ne_eqb x.kind 1 (λ e. c.if-kind-ne1.true (c.kind.ensures ∙ e)))
+
+pub returns-in-At : goal.returns-in-At
+returns-in-At c =
+    let a = c.args in
+    let x = decode a.rec.now in
+    let h = hist a.log.now a.count in
+    λ ix. c.fault_of.ensures ∙ twice_held x h (sym
+    c.node-marked.ensures
+    ∙ c.in-Marked.is)
+    (eq-eqb x.kind 1 (sym c.kind.ensures
+    ∙ c.if-kind-ne1.false))
+    c.a-range.ensures c.b.ensures
+    (found_held _ _ h (c.held_by-held.ensures ix) c.in-At.is)
+
+pub returns-in-Nothing : goal.returns-in-Nothing
+returns-in-Nothing c =
+    let a = c.args in
+    let x = decode a.rec.now in
+    let h = hist a.log.now a.count in
+    λ ix. twice_free x h (sym c.node-marked.ensures
+    ∙ c.in-Marked.is)
+    (eq-eqb x.kind 1 (sym c.kind.ensures ∙ c.if-kind-ne1.false))
+    c.a-range.ensures (lost_held _ _ h (c.held_by-held.ensures ix) c.in-Nothing.is)

@@ -1,0 +1,42 @@
+-- The latest that says what is held, against the latest end.
+use mathlib.Core.Path.{ap, ◌∙◌}
+use native.Mathlib.Omega.{arith}
+use Prim.Native.Nat.{◌-◌}
+use Rattle.record.specs.Records.{TraceRecord}
+use Rattle.rules.specs.OneOwnerPerKey.{is_holding}
+use Rattle.history.proofs.Logs.{record_bytes, bytes_length}
+use Rattle.one_owner_per_key.proofs.Checks.{held_ended, held_holds, held_lacks}
+use Rattle.one_owner_per_key.proofs.held.held_after.Goals as goal
+
+pub returns-then-k-ended : goal.returns-then-k-ended
+returns-then-k-ended c =
+    let a = c.args in
+    record {
+      within = omega arith;
+      held = λ ix e. held_ended a.node.0 a.range a.log.now a.top (c.hold_of-k.ensures.latest ix) e c.if-k-ended.true;
+    }
+
+pub is_holding-requires : goal.is_holding-requires
+is_holding-requires c =
+    rw c.record_at.ensures (bytes_length c.args.log.now (c.hold_of-k.result - 1)
+    (omega (arith, c.requires.0)))
+
+pub returns-then-is_holding : goal.returns-then-is_holding
+returns-then-is_holding c =
+    let a = c.args in
+    let k = c.hold_of-k in
+    record {
+      within = k.ensures.within;
+      held = (λ ix e. held_holds a.node.0 a.range a.log.now a.top (k.ensures.latest ix) e c.if-k-ended.false
+          (c.is_holding.ensures ∙ ap (λ (x : TraceRecord). is_holding x) (record_bytes _ _ c.record_at.ensures)) c.if-is_holding.true, );
+    }
+
+pub returns-else-is_holding : goal.returns-else-is_holding
+returns-else-is_holding c =
+    let a = c.args in
+    let k = c.hold_of-k in
+    record {
+      within = omega arith;
+      held = (λ ix e. held_lacks a.node.0 a.range a.log.now a.top (k.ensures.latest ix) e c.if-k-ended.false
+          (c.is_holding.ensures ∙ ap (λ (x : TraceRecord). is_holding x) (record_bytes _ _ c.record_at.ensures)) c.if-is_holding.false, );
+    }

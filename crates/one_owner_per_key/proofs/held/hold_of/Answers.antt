@@ -1,0 +1,71 @@
+-- The walk along the chain of node and range leaves out no record that says what is held.
+use Prim.Native.Nat.{◌-◌}
+use mathlib.Core.Path.{refl, ap, ◌∙◌}
+use native.Mathlib.Omega.{arith}
+use borrow.Author.Tests.{leb-true}
+use lib.Dec.{leb}
+use Rattle.record.specs.Records.{TraceRecord}
+use Rattle.history.proofs.Logs.{record_bytes, bytes_length}
+use Rattle.record.proofs.Booleans.{and_left}
+use Rattle.one_owner_per_key.specs.Numbers.{says_hold}
+use Rattle.one_owner_per_key.proofs.Walks.{walk_first, walk_next, walk_hit, walk_end, two_below, by_hold_lem}
+use Rattle.one_owner_per_key.proofs.held.hold_of.Goals as goal
+
+pub loop-i-init : goal.loop-i-init
+loop-i-init c =
+    let a = c.args in (
+      c.hold_top-i.ensures.0,
+      λ ix. walk_first (by_hold_lem a.cap a.node.0 a.range) a.log.now a.top a.count ix.held c.requires.1 refl
+          (two_below a.cap a.node.0 a.range c.requires.0.positive) refl c.hold_top-i.ensures.1,
+    )
+
+pub record_at-requires : goal.record_at-requires
+record_at-requires c = omega (arith, c.requires.0)
+
+pub says_hold-requires : goal.says_hold-requires
+says_hold-requires c =
+    rw c.record_at.ensures (bytes_length c.args.log.now (c.loop-i.i - 1)
+    (omega (arith, c.requires.0)))
+
+pub returns-then-i-top : goal.returns-then-i-top
+returns-then-i-top c =
+    let l = c.loop-i in
+    let a = c.args in
+    record {
+      within = leb-true l.i a.top (and_left (leb l.i a.top) c.says_hold.result c.if-i-top.true);
+      latest = (λ ix. walk_hit (by_hold_lem a.cap a.node.0 a.range) a.log.now a.top c.loop-i-test.true (l.invariant.1 ix)
+          (c.says_hold.ensures ∙ ap (λ (x : TraceRecord). says_hold a.node.0 a.range x)
+          (record_bytes _ _ c.record_at.ensures)) c.if-i-top.true, );
+    }
+
+pub hold_below-i-requires : goal.hold_below-i-requires
+hold_below-i-requires c = (
+  c.requires.0.work-holds,
+  (omega (arith, c.requires.0), c.requires.0.small),
+
+)
+
+pub loop-i-smaller : goal.loop-i-smaller
+loop-i-smaller c = omega (arith, c.hold_below-i.ensures.0)
+
+pub loop-i-preserved : goal.loop-i-preserved
+loop-i-preserved c =
+    let l = c.loop-i in
+    let a = c.args in
+    let p = c.requires in (
+      omega (arith, c.hold_below-i.ensures.0),
+      λ ix. walk_next (by_hold_lem a.cap a.node.0 a.range) a.log.now a.top a.count ix.held p.0.within
+          c.loop-i-test.true l.invariant.0 (l.invariant.1 ix)
+          (c.says_hold.ensures ∙ ap (λ (x : TraceRecord). says_hold a.node.0 a.range x)
+          (record_bytes _ _ c.record_at.ensures)) c.if-i-top.false
+          refl c.hold_below-i.ensures.1,
+    )
+
+pub returns : goal.returns
+returns c =
+    let l = c.loop-i in
+    let a = c.args in
+    record {
+      within = omega arith;
+      latest = λ ix. walk_end (by_hold_lem a.cap a.node.0 a.range) a.log.now a.top (omega arith) (l.invariant.1 ix);
+    }

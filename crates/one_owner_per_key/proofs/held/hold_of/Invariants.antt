@@ -1,0 +1,16 @@
+-- The walk along the chain of node and range leaves out no record that says what is held.
+use Prim.Native.Nat.{◌≤◌, ◌-◌}
+use Rattle.history.specs.Logs.{hist}
+use Rattle.history.specs.Buckets.{bucket_by_two}
+use Rattle.one_owner_per_key.specs.Columns.{OwnersIndexed, by_hold}
+use Rattle.one_owner_per_key.specs.Numbers.{says_hold}
+use Rattle.one_owner_per_key.proofs.Walks.{Walking}
+use Rattle.one_owner_per_key.proofs.held.hold_of.Given as goal
+
+abbrev pub invariant-loop-i : goal.invariant-loop-i
+invariant-loop-i l =
+    (l.i ≤ l.count) × (OwnersIndexed l.cap (hist l.log l.count) l.work → Walking (λ x _. says_hold l.node.0 l.range x) (by_hold l.cap)
+    (bucket_by_two l.cap l.node.0 l.range) l.log l.top l.i)
+
+abbrev pub decreases-loop-i : goal.decreases-loop-i
+decreases-loop-i l = l.i

@@ -1,0 +1,35 @@
+-- The record found has the span that is held.
+use mathlib.Core.Path.{ap, ◌∙◌}
+use native.Mathlib.Omega.{arith}
+use Prim.Native.Nat.{◌-◌}
+use Rattle.record.specs.Records.{TraceRecord, decode}
+use Rattle.rules.specs.Descriptors.{span_of}
+use Rattle.rules.specs.OneOwnerPerKey.{meets}
+use Rattle.history.proofs.Logs.{record_bytes, bytes_length}
+use Rattle.one_owner_per_key.proofs.Checks.{met_none, met_some}
+use Rattle.one_owner_per_key.proofs.meeting.is_met.Goals as goal
+
+pub returns-then-i-eq0 : goal.returns-then-i-eq0
+returns-then-i-eq0 c =
+    let a = c.args in
+    λ ix e. met_none (meets (span_of a.k (decode a.rec.now))) a.node.0 a.range a.log.now a.count
+    (c.held_after-i.ensures.held ix e) c.if-i-eq0.true
+
+pub meets-requires : goal.meets-requires
+meets-requires c =
+    let p = c.requires in (
+      p.1.0,
+      (
+        p.1.1,
+        rw c.record_at.ensures
+            (bytes_length c.args.log.now (c.held_after-i.result - 1) (omega (arith, p.0))),
+      ),
+    )
+
+pub returns : goal.returns
+returns c =
+    let a = c.args in
+    let s = span_of a.k (decode a.rec.now) in
+    λ ix e. met_some (meets s) a.node.0 a.range a.log.now a.count (c.held_after-i.ensures.held ix e)
+    c.if-i-eq0.false
+    (c.meets.ensures ∙ ap (λ (x : TraceRecord). meets s (span_of 0 x)) (record_bytes _ _ c.record_at.ensures))

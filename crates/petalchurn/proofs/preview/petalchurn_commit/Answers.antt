@@ -1,0 +1,85 @@
+-- `petalchurn_commit`: no state, numbers or lengths that do not suit, a count that is not the judge's; else what `take_into` gives.
+use mathlib.Core.Path.{◌≡◌, sym, ◌∙◌}
+use mathlib.Core.Bool.{true}
+use native.Mathlib.Omega.{arith}
+use borrow.Author.Tests.{not-true, not-false}
+use Rattle.state_words.specs.StateWords.{is_state, IsState, judge_in}
+use Rattle.state_words.proofs.States.{state_facts}
+use Rattle.ticket_bytes.proofs.TicketBytes.{current_has}
+use Rattle.petalchurn.proofs.PreviewLaws.{commit_unfit, commit_unsuited, commit_stale, commit_done}
+use Rattle.petalchurn.proofs.preview.petalchurn_commit.Goals.{Else-not-is_current, Else-not-is_state, Start}
+use Rattle.petalchurn.proofs.preview.petalchurn_commit.Goals as goal
+
+-- where the words are a state
+module _ (c : Else-not-is_state) where
+  abbrev s : Start
+  s = c
+
+  some : is_state s.args.state.now ≡ true
+  some = sym c.is_state.ensures ∙ not-false c.is_state.result c.if1.false
+
+  facts : IsState s.args.state.now
+  facts = state_facts s.args.state.now some
+
+pub returns-then-not-is_state : goal.returns-then-not-is_state
+returns-then-not-is_state c =
+    let a = c.args in
+    let none = sym c.is_state.ensures ∙ not-true c.is_state.result c.if-not-is_state.true in
+    commit_unfit a.state.now a.log.now a.work.now a.ticket.now none
+
+pub bounds-state-0 : goal.bounds-state-0
+bounds-state-0 c = let e = (facts c).size in omega (arith, e)
+
+pub bounds-state-1 : goal.bounds-state-1
+bounds-state-1 c = let e = (facts c).size in omega (arith, e)
+
+pub returns-then-not-suits : goal.returns-then-not-suits
+unfolding judge_in
+returns-then-not-suits c =
+    let u = c in
+    let e = u in
+    let a = (s e).args in
+    commit_unsuited a.state.now a.log.now a.work.now a.ticket.now (some e)
+    (sym u.suits.ensures ∙ not-true u.suits.result c.if-not-suits.true)
+
+pub returns-then-not-is_current : goal.returns-then-not-is_current
+unfolding judge_in
+returns-then-not-is_current c =
+    let i = c in
+    let u = i in
+    let e = u in
+    let a = (s e).args in
+    commit_stale a.state.now a.log.now a.work.now a.ticket.now (some e)
+    (sym u.suits.ensures ∙ not-false u.suits.result i.if-not-suits.false)
+    (sym c.is_current.ensures ∙ not-true c.is_current.result c.if-not-is_current.true)
+
+-- where the ticket's count is the judge's
+module _ (c : Else-not-is_current) where
+  abbrev at : Else-not-is_state
+  at = c
+
+  current : c.is-current.result ≡ true
+  current = not-false c.is-current.result c.if3.false
+
+pub slice_bounds-take_into-count : goal.slice_bounds-take_into-count
+slice_bounds-take_into-count c =
+    let e = c in
+    let l = current_has (s (at e)).args.ticket.now _ (sym e.is_current.ensures ∙ current e) in
+    omega (arith, l)
+
+pub slice_bounds-take_into-start : goal.slice_bounds-take_into-start
+slice_bounds-take_into-start c =
+    let e = c in
+    let l = current_has (s (at e)).args.ticket.now _ (sym e.is_current.ensures ∙ current e) in
+    omega (arith, l)
+
+pub take_into-requires : goal.take_into-requires
+take_into-requires c = some (at c)
+
+pub returns : goal.returns
+returns c =
+    let p = c in
+    let e = p in
+    let a = (s (at e)).args in
+    commit_done a.state.now a.log.now a.work.now a.ticket.now (some (at e))
+    (sym e.is_current.ensures ∙ current e) p.take_into.ensures

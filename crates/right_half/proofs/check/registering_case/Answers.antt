@@ -1,0 +1,52 @@
+-- The lowest node that lacks the right range of the split that the record registers, if there is one.
+use mathlib.Core.Path.{sym, ap, ◌∙◌}
+use Rattle.record.specs.Records.{decode}
+use Rattle.splits.specs.Splits.{split_with}
+use Rattle.right_half.specs.Answers.{foundIn}
+use Rattle.right_half.proofs.Registering.{unregistered_clear, found_fault, none_clear}
+use Rattle.splits.proofs.Registered.{named_split, right_range}
+use Rattle.right_half.proofs.check.registering_case.Goals as goal
+
+pub returns-then-named-eq0 : goal.returns-then-named-eq0
+returns-then-named-eq0 c = let a = c.args in λ ix e. unregistered_clear a.log.now a.count (decode a.rec.now) e c.if-named-eq0.true
+
+pub parent_of-parent-requires : goal.parent_of-parent-requires
+parent_of-parent-requires c = c.requires.1
+
+pub b-index-requires : goal.b-index-requires
+b-index-requires c = c.requires.1
+
+pub right_of-right-requires : goal.right_of-right-requires
+right_of-right-requires c = (c.requires.0.log-holds, c.requires.1)
+
+pub lowest_lacking-lowest-requires : goal.lowest_lacking-lowest-requires
+lowest_lacking-lowest-requires c = c.requires
+
+pub returns-in-At : goal.returns-in-At
+returns-in-At c =
+    let a = c.args in
+    let x = decode a.rec.now in
+    λ ix e.
+    let s = named_split a.log.now a.count x e c.if-named-eq0.false in
+    let r =
+    c.right_of-right.ensures
+    (right_range a.log.now a.count x e c.if-named-eq0.false) in
+    found_fault a.log.now a.count x e c.if-named-eq0.false
+    c.in-At.node c.parent_of-parent.ensures
+    c.b-index.ensures r
+    (ap foundIn (sym c.in-At.is)
+    ∙ c.lowest_lacking-lowest.ensures ix (split_with a.log.now x a.named) s
+    c.parent_of-parent.ensures c.b-index.ensures r)
+    c.fault_of.ensures
+
+pub returns-in-Nothing : goal.returns-in-Nothing
+returns-in-Nothing c =
+    let a = c.args in
+    let x = decode a.rec.now in
+    λ ix e.
+    let s = named_split a.log.now a.count x e c.if-named-eq0.false in
+    let r =
+    c.right_of-right.ensures (right_range a.log.now a.count x e c.if-named-eq0.false) in
+    none_clear a.log.now a.count x e c.if-named-eq0.false
+    (ap foundIn (sym c.in-Nothing.is) ∙ c.lowest_lacking-lowest.ensures ix (split_with a.log.now x a.named) s
+    c.parent_of-parent.ensures c.b-index.ensures r)

@@ -1,0 +1,117 @@
+-- No registering record from i on makes it owed.
+use mathlib.Core.Path.{sym, ap, ◌∙◌}
+use native.Mathlib.Omega.{arith}
+use mathlib.Core.Logic.{⊎_elim}
+use Prim.Native.Nat.{◌-◌}
+use Rattle.record.specs.Records.{TraceRecord}
+use Rattle.rules.specs.History.{is_kind}
+use Rattle.history.specs.Logs.{record_at}
+use Rattle.history.proofs.Logs.{record_bytes, record_length}
+use Rattle.splits.specs.Splits.{right_by}
+use Rattle.debts.specs.Walk.{owes_split}
+use Rattle.splits.proofs.Noting.{registering_read, named_read}
+use Rattle.splits.proofs.Registered.{named_range, range_of}
+use Rattle.right_half.proofs.Lacks.{owed_first, owed_here, owed_next, owed_end}
+use Rattle.right_half.proofs.lacking.is_owed.Goals as goal
+
+pub registering_by-i-requires : goal.registering_by-i-requires
+registering_by-i-requires c = (c.requires.work-holds, (c.requires.within, c.requires.small))
+
+pub loop-i-init : goal.loop-i-init
+loop-i-init c =
+    let a = c.args in (
+      c.registering_by-i.ensures.0,
+      λ ix e. owed_first a.log.now a.count a.node.0 a.right
+          (c.registering_by-i.ensures.1 ∙ registering_read a.log.now ix.1.registered c.requires.within
+          c.requires.small a.count (omega arith)),
+    )
+
+pub overflow_sub-at : goal.overflow_sub-at
+overflow_sub-at c = omega arith
+
+pub record_at-requires : goal.record_at-requires
+record_at-requires c = omega (arith, c.requires)
+
+pub named_by-requires : goal.named_by-requires
+named_by-requires c = (
+  c.requires.work-holds,
+  (omega (arith, c.requires, c.loop-i.invariant.0), c.requires.small),
+
+)
+
+pub right_of-requires : goal.right_of-requires
+right_of-requires c = (
+  c.requires.log-holds,
+  record_length
+      c.args.log.now (c.loop-i.i - 1)
+      c.record_at.ensures
+      (omega (arith, c.requires, c.loop-i.invariant.0)),
+
+)
+
+pub owes_by-requires : goal.owes_by-requires
+owes_by-requires c = (
+  c.requires,
+  omega
+      (arith, c.loop-i.invariant.0),
+
+)
+
+pub returns-then-owes_by : goal.returns-then-owes_by
+returns-then-owes_by c =
+    let a = c.args in
+    let p = c.requires in
+    let l = c.loop-i in
+    let y = record_bytes a.log.now (l.i - 1) c.record_at.ensures in
+    λ ix e.
+    let w = l.invariant.1 ix e in
+    let m =
+    c.named_by.ensures
+    ∙ named_read a.log.now ix.1.registered p.within p.small (l.i - 1) (omega (arith, l.invariant.0)) in
+    owed_here a.log.now a.count a.node.0 a.right c.loop-i-test.true l.invariant.0 w m
+    (c.right_of.ensures (λ k. range_of a.log.now (l.i - 1) a.count (omega (arith, l.invariant.0)) m
+    (named_range a.log.now (record_at a.log.now (l.i - 1)) (l.i - 1)
+    (w.here c.loop-i-test.true) (ap (λ (z : TraceRecord). is_kind 1 z) (sym y) ∙ k)))
+    ∙ ap (λ (z : TraceRecord). right_by a.log.now z c.named_by.result) y)
+    c.if-right_of-right.true (c.cancel_of-cancel.ensures ix e)
+    (c.owes_by.ensures ix) c.if-owes_by.true
+
+pub registering_by-i-requires-in-loop-i : goal.registering_by-i-requires-in-loop-i
+registering_by-i-requires-in-loop-i c = (
+  c.requires.work-holds,
+  (omega (arith, c.requires, c.loop-i.invariant.0), c.requires.small),
+
+)
+
+pub loop-i-smaller : goal.loop-i-smaller
+loop-i-smaller c = omega (arith, c.registering_by-i-in-loop-i.ensures.0)
+
+pub loop-i-preserved : goal.loop-i-preserved
+loop-i-preserved c =
+    let a = c.args in
+    let p = c.requires in
+    let l = c.loop-i in
+    let y = record_bytes a.log.now (l.i - 1) c.record_at.ensures in (
+      omega (arith, c.registering_by-i-in-loop-i.ensures.0, l.invariant.0),
+      λ ix e.
+          let w = l.invariant.1 ix e in
+          let m =
+          c.named_by.ensures
+          ∙ named_read a.log.now ix.1.registered p.within p.small (l.i - 1) (omega (arith, l.invariant.0)) in
+          owed_next a.log.now a.count a.node.0 a.right c.loop-i-test.true l.invariant.0 w m
+          (c.right_of.ensures (λ k. range_of a.log.now (l.i - 1) a.count (omega (arith, l.invariant.0)) m
+          (named_range a.log.now (record_at a.log.now (l.i - 1)) (l.i - 1) (w.here c.loop-i-test.true)
+          (ap (λ (z : TraceRecord). is_kind 1 z) (sym y) ∙ k)))
+          ∙ ap (λ (z : TraceRecord). right_by a.log.now z c.named_by.result) y)
+          (λ q. ⊎_elim
+          (λ u. ap (owes_split a.log.now a.count a.node.0 (l.i - 1))
+          (sym (c.cancel_of-cancel.ensures ix e)) ∙ sym (u.1.ensures ix) ∙ u.2.left)
+          (λ u. absurd (u.left q)) c.if-right_of-right.branch)
+          (c.registering_by-i-in-loop-i.ensures.1 ∙ registering_read a.log.now ix.1.registered p.within p.small (l.i - 1) (omega (arith, l.invariant.0))),
+    )
+
+pub returns : goal.returns
+returns c =
+    let a =
+    c.args in λ ix e. owed_end a.log.now a.count a.node.0 a.right (omega arith)
+    (c.loop-i.invariant.1 ix e)

@@ -1,0 +1,8 @@
+-- `write_some`: the number of tries left falls.
+use Rattle.sheet.proofs.output.write_some.Given as goal
+
+abbrev pub invariant-loop-left : goal.invariant-loop-left
+invariant-loop-left l = Unit {0}
+
+abbrev pub decreases-loop-left : goal.decreases-loop-left
+decreases-loop-left l = l.left

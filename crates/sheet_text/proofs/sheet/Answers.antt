@@ -1,0 +1,34 @@
+-- `sheet`: a short buffer stays as it was; in another the lines of the checks, and then the last.
+use native.Mathlib.Omega.{arith}
+use Rattle.sheet_text.specs.Sheets.{sheet_text}
+use Rattle.sheet_text.proofs.Appends.{◌⨾◌, appended_length, room_after}
+use Rattle.sheet_text.proofs.Printed.{short_sheet, long_sheet}
+use Rattle.sheet_text.proofs.sheet.Goals as goal
+
+pub returns-then-out-lt-SHEET_SIZE : goal.returns-then-out-lt-SHEET_SIZE
+returns-then-out-lt-SHEET_SIZE c =
+    let whole = (let a = c.args in
+    short_sheet (sheet_text a.reports a.records a.refusal a.at) a.out.now c.if-out-lt-SHEET_SIZE.true) in record { value = whole.0; out_after = whole.1 }
+
+pub append_lines-end-requires : goal.append_lines-end-requires
+append_lines-end-requires c = omega arith
+
+pub append_last-requires : goal.append_last-requires
+append_last-requires c =
+    let c1 = c in
+    let c2 = c1 in
+    room_after c1.append_lines-end.ensures 82 (omega (arith, c2.if-out-lt-SHEET_SIZE.false))
+
+pub shape_of-out : goal.shape_of-out
+shape_of-out c =
+    let c1 = c in
+    let c2 = c1 in
+    appended_length (c2.append_lines-end.ensures ⨾ c1.append_last.ensures)
+
+pub returns : goal.returns
+unfolding sheet_text
+returns c =
+    let whole = (let c1 = c in
+    let c2 = c1 in
+    let c3 = c2 in
+    long_sheet c3.if-out-lt-SHEET_SIZE.false (c2.append_lines-end.ensures ⨾ c1.append_last.ensures)) in record { value = whole.0; out_after = whole.1 }

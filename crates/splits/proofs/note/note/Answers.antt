@@ -1,0 +1,13 @@
+-- What is written is computed before, by the history that the columns say.
+use Rattle.record.specs.Records.{decode}
+use Rattle.splits.proofs.Notes.{noted}
+use Rattle.splits.proofs.note.note.Goals as goal
+
+pub returns : goal.returns
+returns c =
+    let a = c.args in
+    noted a.log.now (decode a.rec.now)
+    c.requires.1.0
+    c.cells_of-cells.ensures
+    c.put_cells.ensures
+    c.enter_split.ensures c.enter_recording.ensures

@@ -1,0 +1,69 @@
+-- Kind 1 names its own; kind 2 uses up the pending RangeSplit of its node.
+use mathlib.Core.Path.{ap, ◌∙◌}
+use native.Mathlib.Omega.{arith}
+use Prim.Native.Nat.{◌-◌}
+use Rattle.record.specs.Records.{TraceRecord, decode}
+use Rattle.rules.specs.RightHalf.{pending_by, uses_up}
+use Rattle.history.proofs.Logs.{record_bytes, bytes_length}
+use Rattle.splits.proofs.Splits.{names_itself, names_none, names_used, names_other}
+use Rattle.splits.proofs.States.{pendingly_is}
+use Rattle.splits.proofs.split.names.Goals as goal
+
+pub returns-then-is_created : goal.returns-then-is_created
+returns-then-is_created c =
+    let whole = ((
+  omega arith,
+  λ ix node e. names_itself c.args.log.now
+      (decode c.args.rec.now) c.args.count node
+      c.is_created.ensures c.if-is_created.true,) in record { within = whole.0; names = whole.1 }
+
+)
+
+pub returns-then-k-eq0 : goal.returns-then-k-eq0
+returns-then-k-eq0 c =
+    let a = c.args in
+    record {
+      within = omega arith;
+      names = (λ ix node e. names_none a.log.now (decode a.rec.now) a.count node c.is_created.ensures
+          c.if-is_created.false
+          (pendingly_is a.log.now node c.requires.0.within (omega arith) e ix.1.pendings
+          c.pending_by-k.ensures.1) c.if-k-eq0.true, );
+    }
+
+pub record_at-requires : goal.record_at-requires
+record_at-requires c = omega (arith, c.requires.0, c.pending_by-k.ensures.0)
+
+pub uses_up-requires : goal.uses_up-requires
+uses_up-requires c = (
+  c.requires.1.0,
+  rw c.record_at.ensures
+      (bytes_length c.args.log.now (c.pending_by-k.result - 1)
+      (omega (arith, c.requires.0, c.pending_by-k.ensures.0))),
+
+)
+
+pub returns-then-uses_up : goal.returns-then-uses_up
+returns-then-uses_up c =
+    let a = c.args in
+    record {
+      within = omega (arith, c.pending_by-k.ensures.0);
+      names = (λ ix node e. names_used a.log.now (decode a.rec.now) a.count node c.is_created.ensures
+          c.if-is_created.false
+          (pendingly_is a.log.now node c.requires.0.within
+          (omega arith) e ix.1.pendings c.pending_by-k.ensures.1) c.if-k-eq0.false
+          (c.uses_up.ensures ∙ ap (λ (y : TraceRecord). uses_up (decode a.rec.now) (pending_by y))
+          (record_bytes a.log.now _ c.record_at.ensures)) c.if-uses_up.true, );
+    }
+
+pub returns-else-uses_up : goal.returns-else-uses_up
+returns-else-uses_up c =
+    let a = c.args in
+    record {
+      within = omega arith;
+      names = (λ ix node e. names_other a.log.now (decode a.rec.now) a.count node
+          c.is_created.ensures c.if-is_created.false
+          (pendingly_is a.log.now node c.requires.0.within
+          (omega arith) e ix.1.pendings c.pending_by-k.ensures.1) c.if-k-eq0.false
+          (c.uses_up.ensures ∙ ap (λ (y : TraceRecord). uses_up (decode a.rec.now) (pending_by y))
+          (record_bytes a.log.now _ c.record_at.ensures)) c.if-uses_up.false, );
+    }

@@ -1,0 +1,80 @@
+-- The walk along the chain of parent and index leaves out no record that registers that split.
+use mathlib.Core.Path.{refl, ap, ◌∙◌}
+use native.Mathlib.Omega.{arith}
+use mathlib.Core.Bool.{◌&&◌}
+use Prim.Native.Nat.{◌-◌}
+use borrow.Author.Tests.{leb-true}
+use lib.Dec.{eqb, leb}
+use Rattle.record.specs.Records.{TraceRecord}
+use Rattle.history.proofs.Logs.{record_bytes, bytes_length}
+use Rattle.record.proofs.Booleans.{and_left}
+use Rattle.one_owner_per_key.proofs.Walks.{walk_first, walk_next, walk_hit, walk_end, two_below}
+use Rattle.splits.specs.Splits.{parent_by}
+use Rattle.splits.proofs.Splits.{by_split_lem, split_test}
+use Rattle.splits.proofs.split.split_of.Goals as goal
+
+pub loop-i-init : goal.loop-i-init
+loop-i-init c =
+    let a = c.args in (
+      c.split_top-i.ensures.0,
+      λ ix. walk_first (by_split_lem a.parent a.index a.cap) a.log.now a.top a.count ix.1.splits
+          c.requires.1 refl (two_below a.cap a.parent a.index c.requires.0.positive) refl
+          c.split_top-i.ensures.1,
+    )
+
+pub record_at-requires : goal.record_at-requires
+record_at-requires c = omega (arith, c.requires.0)
+
+pub is_split-requires : goal.is_split-requires
+is_split-requires c =
+    rw c.record_at.ensures (bytes_length c.args.log.now (c.loop-i.i - 1)
+    (omega (arith, c.requires.0)))
+
+pub returns-then-i-top : goal.returns-then-i-top
+returns-then-i-top c =
+    let l = c.loop-i in
+    let a = c.args in
+    record {
+      within = leb-true l.i a.top (and_left (leb l.i a.top) c.is_split.result c.if-i-top.true);
+      latest = (λ ix.
+          let w = l.invariant.1 ix in
+          walk_hit (by_split_lem a.parent a.index a.cap) a.log.now a.top c.loop-i-test.true w
+          (c.is_split.ensures ∙ ap (λ (y : TraceRecord). eqb (parent_by y) a.parent && eqb y.b a.index)
+          (record_bytes a.log.now _ c.record_at.ensures)
+          ∙ split_test a.parent a.index a.cap a.log.now (l.i - 1) (w.here c.loop-i-test.true))
+          c.if-i-top.true, );
+    }
+
+pub split_below-i-requires : goal.split_below-i-requires
+split_below-i-requires c = (
+  c.requires.0.work-holds,
+  (omega (arith, c.requires.0), c.requires.0.small),
+
+)
+
+pub loop-i-smaller : goal.loop-i-smaller
+loop-i-smaller c = omega (arith, c.split_below-i.ensures.0)
+
+pub loop-i-preserved : goal.loop-i-preserved
+loop-i-preserved c =
+    let l = c.loop-i in
+    let a = c.args in (
+      omega (arith, c.split_below-i.ensures.0),
+      λ ix.
+          let w = l.invariant.1 ix in
+          walk_next (by_split_lem a.parent a.index a.cap) a.log.now a.top a.count ix.1.splits
+          c.requires.0.within c.loop-i-test.true
+          l.invariant.0 w
+          (c.is_split.ensures ∙ ap (λ (y : TraceRecord). eqb (parent_by y) a.parent && eqb y.b a.index)
+          (record_bytes a.log.now _ c.record_at.ensures)
+          ∙ split_test a.parent a.index a.cap a.log.now (l.i - 1) (w.here c.loop-i-test.true))
+          c.if-i-top.false refl c.split_below-i.ensures.1,
+    )
+
+pub returns : goal.returns
+returns c =
+    let a = c.args in
+    record {
+      within = omega arith;
+      latest = λ ix. walk_end (by_split_lem a.parent a.index a.cap) a.log.now a.top (omega arith) (c.loop-i.invariant.1 ix);
+    }
