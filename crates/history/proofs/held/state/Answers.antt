@@ -26,6 +26,6 @@ returns-in_default c =
     let read = c in
     let x = decode read.args.rec.now in
     let other : x.kind ≡ 1 → ⊥ = λ e. read.if-kind-eq1.false (read.kind.ensures ∙ e) in
-    let not-1 : x.code ≡ 1 → ⊥ = λ e. c.in_default.rest.0.1 (read.code.ensures ∙ e) in
-    let not-2 : x.code ≡ 2 → ⊥ = λ e. c.in_default.rest.1 (read.code.ensures ∙ e) in
+    let not-1 : x.code ≡ 1 → ⊥ = λ e. c.in_default.in_default-own.rest.0.1 (read.code.ensures ∙ e) in
+    let not-2 : x.code ≡ 2 → ⊥ = λ e. c.in_default.in_default-own.rest.1 (read.code.ensures ∙ e) in
     rw (ne_eqb _ 1 other, ne_eqb _ 1 not-1, ne_eqb _ 2 not-2)

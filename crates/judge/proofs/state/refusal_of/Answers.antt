@@ -12,7 +12,7 @@ less n k l f = omega arith
 pub returns-in_default : goal.returns-in_default
 returns-in_default c =
     let n = c.args.number in
-    let r = c.in_default.rest in
+    let r = c.in_default.in_default-own.rest in
     ⊎_elim
     (λ six.
     let five : n ≤ 5 = less n 5 six r.1 in

@@ -1,13 +1,13 @@
 -- Both loops keep that all places before i were alike: a word that is the same makes its eight bytes so.
-use mathlib.Core.Logic.{⊎_elim}
 use mathlib.Core.Path.{◌∙◌, sym}
 use Prim.Native.Nat.{◌-◌}
 use native.Mathlib.Omega.{arith}
 use Rattle.record.proofs.Keys.{alike_start, alike_word, alike_byte}
+use Rattle.record.proofs.key.alike.Goals.{then-a-b, else-a-b}
 use Rattle.record.proofs.key.alike.Goals as goal
 
 pub loop-i-init : goal.loop-i-init
-loop-i-init c = alike_start _ _ _ (⊎_elim (λ w. omega arith) (λ w. omega arith) c.if-a-b.branch)
+loop-i-init c = alike_start _ _ _ (elim c.if-a-b.branch [ then-a-b w ↦ omega arith | else-a-b w ↦ omega arith ])
 
 pub overflow_sub-n : goal.overflow_sub-n
 overflow_sub-n c = omega arith

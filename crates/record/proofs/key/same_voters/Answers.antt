@@ -7,7 +7,6 @@ use borrow.Author.Count.{below_none, below_more}
 use Rattle.record.specs.Records.{decode, voters_in}
 use Rattle.record.proofs.Keys.{differ_length, differ_at, equal_all}
 use Rattle.record.proofs.Records.{voter_at}
-use Rattle.record.proofs.key.same_voters.Goals.{After-u64_at-in-loop-i}
 use Rattle.record.proofs.key.same_voters.Goals as goal
 
 pub returns-then-n-voter_count : goal.returns-then-n-voter_count
@@ -20,21 +19,19 @@ pub loop-i-init : goal.loop-i-init
 loop-i-init c = (omega arith, below_none _)
 
 -- what the two calls read are the two records' voters at i
-first : (c : After-u64_at-in-loop-i)
-    → c.u64_at.result ≡ get_or (voters_in c.args.a.now) c.loop-i.i 0
-unfolding decode
-first c = c.u64_at.ensures ∙ sym (voter_at _ c.args.a.now (omega arith))
-
-second : (c : After-u64_at-in-loop-i)
-    → c.u64_at-in-loop-i.result ≡ get_or (voters_in c.args.b.now) c.loop-i.i 0
-unfolding decode
-second c = c.u64_at-in-loop-i.ensures ∙ sym (voter_at _ c.args.b.now (omega arith))
-
 pub returns-then-u64_at : goal.returns-then-u64_at
-returns-then-u64_at c = sym (differ_at _ _ _ (λ e. c.if-u64_at.true (first c ∙ e ∙ sym (second c))))
+unfolding decode
+returns-then-u64_at c =
+    let first = c.u64_at.ensures ∙ sym (voter_at c.loop-i.i c.args.a.now (omega arith)) in
+    let second = c.u64_at-in-loop-i.ensures ∙ sym (voter_at c.loop-i.i c.args.b.now (omega arith)) in
+    sym (differ_at _ _ _ (λ e. c.if-u64_at.true (first ∙ e ∙ sym second)))
 
 pub loop-i-preserved : goal.loop-i-preserved
-loop-i-preserved c = (omega arith, below_more _ _ c.loop-i.invariant.1 (sym (first c) ∙ c.if-u64_at.false ∙ second c))
+unfolding decode
+loop-i-preserved c =
+    let first = c.u64_at.ensures ∙ sym (voter_at c.loop-i.i c.args.a.now (omega arith)) in
+    let second = c.u64_at-in-loop-i.ensures ∙ sym (voter_at c.loop-i.i c.args.b.now (omega arith)) in
+    (omega arith, below_more _ _ c.loop-i.invariant.1 (sym first ∙ c.if-u64_at.false ∙ second))
 
 pub returns : goal.returns
 unfolding decode
