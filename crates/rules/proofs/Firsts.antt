@@ -35,7 +35,7 @@ module _ {A : Type 0} where
   add_mem none m = m
   add_mem (some b) m = there m
 
-  pub by_told : (tells : Tells A) {h : History} {a : A} → ToldBy tells a h → Mem a (told tells h)
+  pub by_told : (tells : Tells A) {a : A} {h : History} → ToldBy tells a h → Mem a (told tells h)
   unfolding told
   by_told tells (now e) = rw e here
   by_told tells (before {x = x} {h = h} w) = add_mem (tells x h) (by_told tells w)
@@ -79,6 +79,7 @@ module _ {A : Type 0} where
 
   -- so two of them that are the same are one
   pub apart_one : {same : A → A → Bool} {xs : List A} {a b : A} → Apart same xs → Mem a xs → Mem b xs → same a b ≡ true → same b a ≡ true → a ≡ b
+  apart_one {same = same} {a = a} {b = b} alone m _ e f = elim m [ ]
   apart_one (joined h w) here here e f = refl
   apart_one (joined h w) here (there n) e f = never e (h _ n)
   apart_one (joined h w) (there m) here e f = never f (h _ m)
@@ -148,7 +149,7 @@ module _ {A : Type 0} (same : A → A → Bool) (tells : Tells A) where
     covered a xs false e = record { it = a; mem = here; passes = s.itself a }
 
     -- all that was told is the same as one of the firsts
-    pub told_covered : {h : History} {a : A} → ToldBy tells a h → Passing (same a) (firsts same tells h)
+    pub told_covered : {a : A} {h : History} → ToldBy tells a h → Passing (same a) (firsts same tells h)
     unfolding firsts
     told_covered {a = a} (now {h = h} e) = rw e (covered a (firsts same tells h) _ refl)
     told_covered (before {x = x} {h = h} w) =
@@ -170,7 +171,7 @@ module _ {A : Type 0} (same : A → A → Bool) (tells : Tells A) where
         (λ n. earlier (firsts_by h n))
         (first_cases (tells x h) (firsts same tells h) m)
 
-  pub by_firsts : {h : History} {a : A} → FirstBy a h → Mem a (firsts same tells h)
+  pub by_firsts : {a : A} {h : History} → FirstBy a h → Mem a (firsts same tells h)
   unfolding firsts
   by_firsts {a = a} (first {h = h} e f) = rw (e, none_any_of (same a) (firsts same tells h) (λ b m. f b (firsts_told h m))) here
   by_firsts (earlier {x = x} {h = h} w) = first_mem (tells x h) (by_firsts w)

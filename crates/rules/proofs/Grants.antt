@@ -303,6 +303,7 @@ empty_of {xs = []} f = refl
 empty_of {xs = x ∷ xs} f = absurd (f x here)
 
 single_of : {g : Grant} {xs : List Grant} → length xs ≤ 1 → Mem g xs → xs ≡ g ∷ []
+single_of {g = g} {xs = []} l m = elim m [ ]
 single_of {xs = x ∷ []} l here = refl
 single_of {xs = x ∷ []} l (there m) = mem_nil m
 single_of {xs = x ∷ y ∷ ys} l m = absurd (omega arith)

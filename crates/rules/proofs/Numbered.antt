@@ -21,6 +21,7 @@ module _ {A : Type 0} (number : A → ℕ) where
 
   -- two with one number are one
   pub falling_one : {xs : List A} {a b : A} → Falling xs → Mem a xs → Mem b xs → number a ≡ number b → a ≡ b
+  falling_one {a = a} {b = b} empty m _ e = elim m [ ]
   falling_one (above h f) here here e = refl
   falling_one (above h f) here (there n) e = absurd (omega (arith, h _ n))
   falling_one (above h f) (there m) here e = absurd (omega (arith, h _ m))
