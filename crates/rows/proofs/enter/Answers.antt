@@ -13,6 +13,5 @@ pub returns-in-Fault : goal.returns-in-Fault
 returns-in-Fault c =
     let a = c.args in
     let p = c.requires in
-    let fault = c.c-1.given in
-    let byte : c.in-Fault.kind < 256 = c.known_told-1.given.0.1 in
+    let byte : c.in-Fault.kind < 256 = c.in-Fault.known_told-1-own.given.0.1 in
     enter_fault a.rows.now a.k a.position p.0 p.1 (omega arith) c.in-Fault.is c.write_report.ensures.0

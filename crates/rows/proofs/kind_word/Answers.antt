@@ -12,7 +12,6 @@ returns-in-Pass c =
 
 pub returns-in-Faulted : goal.returns-in-Faulted
 returns-in-Faulted c =
-    let fault = c.verdict-1.given in
-    let byte : c.in-Faulted.kind < 256 = c.known_told-1.given.0.1 in
+    let byte : c.in-Faulted.kind < 256 = c.in-Faulted.known_told-1-own.given.0.1 in
     let e : kind_word c.args.verdict ≡ c.in-Faulted.kind = ap kind_word c.in-Faulted.is in
     (sym e, omega arith)

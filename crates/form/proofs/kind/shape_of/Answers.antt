@@ -36,8 +36,8 @@ returns-in_default c = let z : c.args.kind ≡ 0 = omega arith in rw z
 pub returns-in_default-2 : goal.returns-in_default-2
 returns-in_default-2 c =
     let k = c.args.kind in
-    let a = c.in_default-1.in_default-1-own.rest in
-    let h : 10 ≤ k = over 9 k (over 8 k (over 7 k c.if-kind-lt7.false (λ e. a.0.0.0.0.0.1 (inr e))) a.0.0.0.1) a.0.0.1 in
+    let a = c.in_default.in_default-own.rest in
+    let h : 10 ≤ k = over 9 k (over 8 k (over 7 k c.in_default.if-kind-lt7-own.false (λ e. a.0.0.0.0.0.1 (inr e))) a.0.0.0.1) a.0.0.1 in
     sym (past k (over 12 k (over 11 k (over 10 k h a.0.0.0.0.1) a.0.1) a.1))
 
 pub returns-in-5-to-6 : goal.returns-in-5-to-6

@@ -20,10 +20,10 @@ no_one : (rs : List Report) (k : ℕ) → (k ≡ 0 → ⊥) → k ≤ 8 → get_
 no_one rs k n l = sym (simp (le-leb 1 k (omega arith), le-leb k 8 l))
 
 pub returns-then-k-eq0 : goal.returns-then-k-eq0
-returns-then-k-eq0 c = let a = c.args in no_none a.t1 a.k c.if-k-eq0.true c.pass.ensures
+returns-then-k-eq0 c = let a = c.args in no_none a.reports a.k c.if-k-eq0.true c.pass.ensures
 
 pub returns-then-k-gt-CHECKS : goal.returns-then-k-gt-CHECKS
-returns-then-k-gt-CHECKS c = let a = c.args in no_past a.t1 a.k c.if-k-gt-CHECKS.true c.pass-then-k-gt-CHECKS.ensures
+returns-then-k-gt-CHECKS c = let a = c.args in no_past a.reports a.k c.if-k-gt-CHECKS.true c.pass-then-k-gt-CHECKS.ensures
 
 pub returns : goal.returns
-returns c = let a = c.args in no_one a.t1 a.k c.if-k-eq0.false c.if-k-gt-CHECKS.false
+returns c = let a = c.args in no_one a.reports a.k c.if-k-eq0.false c.if-k-gt-CHECKS.false

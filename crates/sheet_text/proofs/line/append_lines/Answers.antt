@@ -7,7 +7,7 @@ use Rattle.sheet_text.proofs.Lines.{lines_none, lines_more, lines_all}
 use Rattle.sheet_text.proofs.line.append_lines.Goals as goal
 
 pub loop-k-init : goal.loop-k-init
-loop-k-init c = (omega arith, lines_none c.args.t2)
+loop-k-init c = (omega arith, lines_none c.args.reports)
 
 pub append_report-end-requires : goal.append_report-end-requires
 append_report-end-requires c =
@@ -18,7 +18,7 @@ pub loop-k-preserved : goal.loop-k-preserved
 loop-k-preserved c =
     let l = c.loop-k in
     let a = c.args in
-    (omega arith, lines_more a.t2 l.k l.invariant.1 c.append_report-end.ensures)
+    (omega arith, lines_more a.reports l.k l.invariant.1 c.append_report-end.ensures)
 
 pub shape_of-out : goal.shape_of-out
 shape_of-out c = appended_length c.loop-k.invariant.1
@@ -26,4 +26,4 @@ shape_of-out c = appended_length c.loop-k.invariant.1
 pub returns : goal.returns
 returns c =
     let l = c.loop-k in
-    lines_all c.args.t2 l.k l.invariant.0 c.loop-k-test.false l.invariant.1
+    lines_all c.args.reports l.k l.invariant.0 c.loop-k-test.false l.invariant.1

@@ -13,7 +13,7 @@ loop-k-init c = (omega arith, c.requires, λ j l. absurd (omega arith))
 
 pub loop-k-preserved : goal.loop-k-preserved
 loop-k-preserved c =
-    let reports = c.args.t2 in
+    let reports = c.args.reports in
     let l = c.loop-k in
     let place = c.verdict_place.result in
     let kinds = c.kinds_of.ensures in

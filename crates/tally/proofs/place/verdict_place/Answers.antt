@@ -7,7 +7,6 @@ use Rattle.tally.proofs.place.verdict_place.Goals as goal
 pub returns-then-at-kinds : goal.returns-then-at-kinds
 returns-then-at-kinds c =
     let kinds = c.args.kinds in
-    let fault = c.verdict-1.given in
     let at = c.in-Faulted.kind in
     let is = ap (verdict_place kinds) c.in-Faulted.is in
     let test = c.if-at-kinds.true in
@@ -16,7 +15,6 @@ returns-then-at-kinds c =
 pub returns-else-at-kinds : goal.returns-else-at-kinds
 returns-else-at-kinds c =
     let kinds = c.args.kinds in
-    let fault = c.verdict-1.given in
     let at = c.in-Faulted.kind in
     let is = ap (verdict_place kinds) c.in-Faulted.is in
     let test = c.if-at-kinds.false in

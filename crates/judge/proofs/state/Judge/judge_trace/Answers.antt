@@ -17,4 +17,4 @@ pub returns-in_default : goal.returns-in_default
 returns-in_default c =
     let a = c.args in
     let o = c.«open» in
-    traced_off a.opening a.log.now a.work.now a.trace.now o.result o.ensures (refuses o.result.refusal c.in_default.keys2)
+    traced_off a.opening a.log.now a.work.now a.trace.now o.result o.ensures (refuses o.result.refusal c.in_default.in_default-own.keys2)
