@@ -6,7 +6,6 @@ use Prim.Native.Nat.{ℕ, ◌*◌, ◌≤◌}
 use native.Mathlib.Omega.{arith}
 use lib.ListN.{length}
 use lib.Dec.{eqb}
-use borrow.Author.Tests.{not-true, not-false}
 use Rattle.record.specs.Numbers.{byte_at}
 use Rattle.form.specs.Form.{refusal_of}
 use Rattle.record.specs.Records.{decode}
@@ -24,13 +23,13 @@ pub returns-then-not-suits : goal.returns-then-not-suits
 returns-then-not-suits c =
     let u = c.suits in
     let a = c.args in
-    let h : suits_by a.cap a.count (length a.log.now) a.words ≡ false = sym u.ensures ∙ not-true u.result c.if-not-suits.true in
+    let h : suits_by a.cap a.count (length a.log.now) a.words ≡ false = sym u.ensures ∙ c.if-not-suits.true in
     decided_unfit a.cap a.count a.log.now a.words a.rec.now (byte_at 0 a.rec.now) h
 
 -- past the first test the judge and its buffers suit
 module _ (c : Else-not-suits) where
   suited : let a = c.args in suits_by a.cap a.count (length a.log.now) a.words ≡ true
-  suited = let u = c.suits in sym u.ensures ∙ not-false u.result c.if-not-suits.false
+  suited = let u = c.suits in sym u.ensures ∙ c.if-not-suits.false
 
 pub returns-then-rec-ne-RECORD_SIZE : goal.returns-then-rec-ne-RECORD_SIZE
 returns-then-rec-ne-RECORD_SIZE c =

@@ -4,7 +4,6 @@ use mathlib.Core.Bool.{Bool, true, ◌&&◌}
 use Prim.Native.Nat.{ℕ, ◌*◌, ◌≤◌}
 use native.Mathlib.Omega.{arith}
 use lib.Dec.{eqb}
-use borrow.Author.Tests.{not-true, not-false}
 use Rattle.decision.specs.Refusals.{fits_by}
 use Rattle.decision.proofs.Suiting.{small_by}
 use Rattle.decision.proofs.suits.Goals.{Else-not-cap-count}
@@ -16,13 +15,13 @@ lengths capacity logs words = eqb logs (368 * capacity) && eqb words (32 * capac
 pub returns-then-not-cap-count : goal.returns-then-not-cap-count
 returns-then-not-cap-count c =
     let a = c.args in
-    let h = not-true (fits_by a.cap a.count) c.if-not-cap-count.true in
+    let h = c.if-not-cap-count.true in
     sym (ap (λ (b : Bool). b && lengths a.cap a.logs a.words) h)
 
 -- where the numbers fit
 module _ (c : Else-not-cap-count) where
   fit : fits_by c.args.cap c.args.count ≡ true
-  fit = not-false (fits_by c.args.cap c.args.count) c.if-not-cap-count.false
+  fit = c.if-not-cap-count.false
 
   small : c.args.cap ≤ 4096
   small = small_by c.args.cap c.args.count fit

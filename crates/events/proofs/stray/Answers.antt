@@ -4,7 +4,6 @@ use mathlib.Core.Bool.{Bool, true, false, not}
 use mathlib.Core.List.{List}
 use Prim.Native.Nat.{ℕ, ◌-◌, ◌<◌}
 use native.Mathlib.Omega.{arith}
-use borrow.Author.Tests.{not-true, not-false}
 use Rattle.record.specs.Records.{TraceRecord, decode}
 use Rattle.rules.specs.Events.{continues, goes_on}
 use Rattle.history.proofs.Logs.{record_bytes, record_length}
@@ -25,12 +24,12 @@ module _ (c : After-continues) where
 pub returns-then-not-continues : goal.returns-then-not-continues
 returns-then-not-continues c =
     let p = c in
-    let begins : continues (x p) ≡ false = sym p.continues.ensures ∙ not-true p.continues.result c.if-not-continues.true in
+    let begins : continues (x p) ≡ false = sym p.continues.ensures ∙ c.if-not-continues.true in
     sym (stray_begins (x p) (log p) (n p) begins)
 
 -- past the first test the record continues
 goes : (c : Else-not-continues) → continues (x c) ≡ true
-goes c = let p = c in sym p.continues.ensures ∙ not-false p.continues.result c.if-not-continues.false
+goes c = let p = c in sym p.continues.ensures ∙ c.if-not-continues.false
 
 pub returns-then-n-eq0 : goal.returns-then-n-eq0
 returns-then-n-eq0 c = let p = c in sym (stray_first (x p) (log p) (n p) (goes c) c.if-n-eq0.true)

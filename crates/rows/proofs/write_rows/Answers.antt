@@ -21,7 +21,7 @@ pub loop-k-preserved : goal.loop-k-preserved
 loop-k-preserved c =
     let a = c.args in
     let l = c.loop-k in
-    let n : length a.reports ≡ 8 = c.well-formed.1.1.0.1.0.1 in (
+    let n : length a.reports ≡ 8 = c.well_formed.1.1.0.1.0.1 in (
       omega arith,
       c.write_report.ensures.0 ∙ rows_more a.out.now l.out a.at a.reports l.k (omega arith) l.invariant.1,
       λ j m. kinds_more a.reports l.k l.invariant.2 c.write_report.ensures.1 j m,
@@ -36,7 +36,7 @@ pub returns : goal.returns
 returns c =
     let a = c.args in
     let l = c.loop-k in
-    let n : length a.reports ≡ 8 = c.well-formed.1.1.0.1.0.1 in
+    let n : length a.reports ≡ 8 = c.well_formed.1.1.0.1.0.1 in
     record {
       many = n;
       kinds = λ j m. l.invariant.2 j (omega arith);

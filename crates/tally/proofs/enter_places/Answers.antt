@@ -1,6 +1,5 @@
 -- `enter_places`: the tests in the order of the refusals, and then the counts raised.
 use mathlib.Core.Path.{sym, ◌∙◌}
-use borrow.Author.Tests.{not-true, not-false}
 use Rattle.tally.proofs.Entering.{known_of, unfit_by, fit_by, places_unfit, places_unused, places_full, places_done, length_of, known_by}
 use Rattle.tally.proofs.enter_places.Goals as goal
 
@@ -24,7 +23,7 @@ returns-then-not-unused_clear c =
     let asked = tested in
     let a = asked.args in
     let fit = fit_by a.tally.now a.places.now a.count a.fit asked.all_known-known.ensures tested.if-not-tally-fit.false in
-    let unused = sym tested.unused_clear.ensures ∙ not-true tested.unused_clear.result c.if-not-unused_clear.true in
+    let unused = sym tested.unused_clear.ensures ∙ c.if-not-unused_clear.true in
     places_unused a.tally.now a.places.now a.count a.fit fit unused
 
 pub has_room-requires : goal.has_room-requires
@@ -44,8 +43,8 @@ returns-then-not-has_room c =
     let asked = tested in
     let a = asked.args in
     let fit = fit_by a.tally.now a.places.now a.count a.fit asked.all_known-known.ensures tested.if-not-tally-fit.false in
-    let clear = sym tested.unused_clear.ensures ∙ not-false tested.unused_clear.result room.if-not-unused_clear.false in
-    let none = sym room.has_room.ensures ∙ not-true room.has_room.result c.if-not-has_room.true in
+    let clear = sym tested.unused_clear.ensures ∙ room.if-not-unused_clear.false in
+    let none = sym room.has_room.ensures ∙ c.if-not-has_room.true in
     places_full a.tally.now a.places.now a.count a.fit fit clear none
 
 pub raise-requires : goal.raise-requires
@@ -58,7 +57,7 @@ raise-requires c =
     let fit = fit_by a.tally.now a.places.now a.count a.fit asked.all_known-known.ensures tested.if-not-tally-fit.false in
     let size = length_of a.tally.now a.places.now a.count a.fit fit in
     let known = known_of a.places.now s.requires (known_by a.tally.now a.places.now a.count a.fit fit) in
-    (size, known, sym room.has_room.ensures ∙ not-false room.has_room.result c.if-not-has_room.false)
+    (size, known, sym room.has_room.ensures ∙ c.if-not-has_room.false)
 
 pub returns : goal.returns
 returns c =
@@ -68,6 +67,6 @@ returns c =
     let asked = tested in
     let a = asked.args in
     let fit = fit_by a.tally.now a.places.now a.count a.fit asked.all_known-known.ensures tested.if-not-tally-fit.false in
-    let clear = sym tested.unused_clear.ensures ∙ not-false tested.unused_clear.result room.if-not-unused_clear.false in
-    let enough = sym room.has_room.ensures ∙ not-false room.has_room.result raised.if-not-has_room.false in
+    let clear = sym tested.unused_clear.ensures ∙ room.if-not-unused_clear.false in
+    let enough = sym room.has_room.ensures ∙ raised.if-not-has_room.false in
     places_done a.tally.now a.places.now a.count a.fit fit clear enough raised.raise.ensures

@@ -1,7 +1,7 @@
 -- By the kind of the record, where it is the node's own.
 use mathlib.Core.Path.{sym, ap, ◌∙◌}
 use native.Mathlib.Omega.{arith}
-use borrow.Author.Tests.{not-true, not-false}
+use borrow.Author.Tests.{not-false}
 use Rattle.record.specs.declared.named.ApplyEffect.TheVariants.{Took}
 use Rattle.record.specs.Records.{TraceRecord}
 use Rattle.rules.specs.History.{is_by}
@@ -23,7 +23,7 @@ returns-then-not-is_by c =
     record {
       within = omega arith;
       is = (λ ix. own_other a.log.now a.at a.node.0 a.right
-          (sym (c.is_by.ensures ∙ ap (λ (z : TraceRecord). is_by a.node.0 z) y) ∙ not-true c.is_by.result c.if-not-is_by.true), );
+          (sym (c.is_by.ensures ∙ ap (λ (z : TraceRecord). is_by a.node.0 z) y) ∙ c.if-not-is_by.true), );
     }
 
 pub kind-requires : goal.kind-requires
@@ -44,7 +44,7 @@ returns-then-kind-has_taken c =
     let y = record_bytes a.log.now a.at c.record_at-rec.ensures in
     let b =
     sym (c.is_by.ensures ∙ ap (λ (z : TraceRecord). is_by a.node.0 z) y)
-    ∙ not-false c.is_by.result c.if-not-is_by.false in
+    ∙ c.if-not-is_by.false in
     let t =
     applies_test (record_at a.log.now a.at) (c.kind.ensures ∙ ap (λ (z : TraceRecord). z.kind) y)
     (c.has_taken.ensures ∙ ap (λ (z : TraceRecord). has_effect Took z) y) c.if-kind-has_taken.true in

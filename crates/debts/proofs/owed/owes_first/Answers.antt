@@ -1,7 +1,6 @@
 -- It has a part in it, it is applied by then, and the server as of then is a voter.
 use mathlib.Core.Path.{sym, ◌∙◌}
 use native.Mathlib.Omega.{arith}
-use borrow.Author.Tests.{not-true}
 use Rattle.record.specs.Records.{decode}
 use Rattle.splits.proofs.States.{server_is}
 use Rattle.debts.proofs.Comings.{owes_first_voter, owes_first_none}
@@ -15,7 +14,7 @@ pub returns-then-not-has_part : goal.returns-then-not-has_part
 returns-then-not-has_part c =
     let a = c.args in
     λ ix. first_away a.log.now a.t a.node.0 (decode a.rec.now)
-    (sym (c.has_part.ensures ix) ∙ not-true c.has_part.result c.if-not-has_part.true)
+    (sym (c.has_part.ensures ix) ∙ c.if-not-has_part.true)
 
 pub latest_of-last-requires : goal.latest_of-last-requires
 latest_of-last-requires c = (c.requires.0, c.requires.1.0)

@@ -1,20 +1,19 @@
 -- None is replaced, and else the one at the place unless the best so far is below it.
 use mathlib.Core.Option.{some}
 use native.Mathlib.Omega.{arith}
-use borrow.Author.Tests.{not-true, not-false}
 use Rattle.history.specs.Weighing.{lower_of}
 use Rattle.history.proofs.Queries.{lower_none}
 use Rattle.descriptors.proofs.Walks.{weigh_first, lower_takes, lower_keeps}
 use Rattle.descriptors.proofs.value.lower.Goals as goal
 
 pub returns-then-not-passes : goal.returns-then-not-passes
-returns-then-not-passes c = let a = c.args in (rw (not-true a.passes c.if-not-passes.true), λ n p q. p)
+returns-then-not-passes c = let a = c.args in (rw c.if-not-passes.true, λ n p q. p)
 
 pub returns-then-best-eq0 : goal.returns-then-best-eq0
-returns-then-best-eq0 c = let a = c.args in (weigh_first a.log.now a.best a.i a.passes (lower_of (λ v. v.index)) (λ v. lower_none (λ w. w.index) (some v)) (not-false a.passes c.if-not-passes.false) c.if-best-eq0.true, λ n p q. omega arith)
+returns-then-best-eq0 c = let a = c.args in (weigh_first a.log.now a.best a.i a.passes (lower_of (λ v. v.index)) (λ v. lower_none (λ w. w.index) (some v)) c.if-not-passes.false c.if-best-eq0.true, λ n p q. omega arith)
 
 pub returns-then-index_of : goal.returns-then-index_of
-returns-then-index_of c = let a = c.args in (lower_takes a.log.now a.best a.i a.passes (not-false a.passes c.if-not-passes.false) c.if-best-eq0.false (omega (arith, c.index_of.ensures, c.index_of-2.ensures)), λ n p q. omega arith)
+returns-then-index_of c = let a = c.args in (lower_takes a.log.now a.best a.i a.passes c.if-not-passes.false c.if-best-eq0.false (omega (arith, c.index_of.ensures, c.index_of-2.ensures)), λ n p q. omega arith)
 
 pub returns : goal.returns
-returns c = let a = c.args in (lower_keeps a.log.now a.best a.i a.passes (not-false a.passes c.if-not-passes.false) c.if-best-eq0.false (omega (arith, c.index_of.ensures, c.index_of-2.ensures)), λ n p q. p)
+returns c = let a = c.args in (lower_keeps a.log.now a.best a.i a.passes c.if-not-passes.false c.if-best-eq0.false (omega (arith, c.index_of.ensures, c.index_of-2.ensures)), λ n p q. p)

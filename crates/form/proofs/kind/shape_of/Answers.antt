@@ -4,6 +4,7 @@ use mathlib.Core.Logic.{inl, inr, ⊎_elim}
 use Prim.Native.Nat.{◌≤◌}
 use native.Mathlib.Omega.{arith}
 use Rattle.form.proofs.Shapes.{over, past, five_six}
+use Rattle.form.proofs.kind.shape_of.Goals.{in-10-1, in_default+else-kind-lt1+then-kind-lt7}
 use Rattle.form.proofs.kind.shape_of.Goals as goal
 
 pub returns-in-1 : goal.returns-in-1
@@ -42,11 +43,6 @@ returns-in_default-2 c =
 
 pub returns-in-5-to-6 : goal.returns-in-5-to-6
 returns-in-5-to-6 c =
-    let k = c.args.kind in
-    ⊎_elim
-    (λ w. rw w.keys5 c.numbered-in-5-to-6.ensures)
-    (λ w.
-    let a = w.0.rest.0.0.0.0.0 in
-    let h : 3 ≤ k = over 2 k (over 1 k w.1.left a.0.0.0.1) a.0.0.1 in
-    c.numbered-in-5-to-6.ensures ∙ sym (five_six k (over 4 k (over 3 k h a.0.1) (λ e. a.1 (inl e))) w.2.taken))
-    c.in-5-to-6-1.branch
+    elim c.in-5-to-6-1.branch [
+      in-10-1 w ↦ (let z : c.args.kind ≡ 10 = omega arith in rw z c.numbered-in-5-to-6.ensures)
+    | in_default+else-kind-lt1+then-kind-lt7 w ↦ c.numbered-in-5-to-6.ensures ∙ sym (five_six c.args.kind (grind arith) (grind arith)) ]

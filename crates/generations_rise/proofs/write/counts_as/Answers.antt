@@ -1,6 +1,5 @@
 -- No write, one at a place that counted before, or one at the generation of what was found.
 use mathlib.Core.Path.{refl, sym, ◌∙◌}
-use borrow.Author.Tests.{not-true, not-false}
 use Rattle.record.specs.Records.{decode}
 use Rattle.record.proofs.Booleans.{never}
 use Rattle.generations_rise.proofs.Writes.{as_none, as_known, as_found}
@@ -9,7 +8,7 @@ use Rattle.generations_rise.proofs.write.counts_as.Goals as goal
 
 pub returns-then-not-is_write : goal.returns-then-not-is_write
 returns-then-not-is_write c =
-    let e = sym c.is_write.ensures ∙ not-true _ c.if-not-is_write.true in
+    let e = sym c.is_write.ensures ∙ c.if-not-is_write.true in
     record {
       kind = λ z. refl;
       told = λ k j. as_none _ _ e;
@@ -18,7 +17,7 @@ returns-then-not-is_write c =
 pub returns-then-is_counted : goal.returns-then-is_counted
 returns-then-is_counted c =
     let l = c in
-    let e = sym l.is_write.ensures ∙ not-false _ l.if-not-is_write.false in
+    let e = sym l.is_write.ensures ∙ l.if-not-is_write.false in
     record {
       kind = λ z. refl;
       told = (λ k j. as_known _ _ c.a-range.ensures c.b-index.ensures e (c.is_counted.ensures k) c.if-is_counted.true, );
@@ -27,7 +26,7 @@ returns-then-is_counted c =
 pub returns : goal.returns
 returns c =
     let l = c in
-    let e = sym l.is_write.ensures ∙ not-false _ l.if-not-is_write.false in
+    let e = sym l.is_write.ensures ∙ l.if-not-is_write.false in
     record {
       kind = λ z. never e (not_apply (decode l.args.rec.now) z);
       told = (λ k j. as_found _ _ _ c.a-range.ensures c.b-index.ensures e

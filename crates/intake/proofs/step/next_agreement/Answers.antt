@@ -1,7 +1,6 @@
 -- `next_agreement`: agreement's row is left by a record that does not concern it, kept after a fault, else entered.
 use mathlib.Core.Path.{sym, ◌∙◌}
 use native.Mathlib.Omega.{arith}
-use borrow.Author.Tests.{not-true, not-false}
 use Rattle.intake.proofs.Steps.{left, kept, stepped}
 use Rattle.rules.specs.Descriptors.{agreement}
 use Rattle.rules.proofs.Concerns.{agreement_none}
@@ -20,7 +19,7 @@ returns-then-not-passes c =
     let p = c.passes in
     λ o.
     kept 0 1 (omega arith) a.cap a.log.now a.work.now a.n a.rec.now a.concerned a.position a.rows.now
-    (sym p.ensures ∙ not-true p.result c.if-not-passes.true) o
+    (sym p.ensures ∙ c.if-not-passes.true) o
 
 pub returns : goal.returns
 returns c =
@@ -30,5 +29,5 @@ returns c =
     let says = c.agreement-c.ensures in
     λ o.
     stepped 0 1 (omega arith) a.cap a.log.now a.work.now a.n a.rec.now a.concerned a.position a.rows.now
-    (sym p.ensures ∙ not-false p.result c.if-not-passes.false)
+    (sym p.ensures ∙ c.if-not-passes.false)
     _ _ e.ensures o (λ i v. says i.descriptors (pass_clear agreement agreement_none (hist a.log.now a.n) v))

@@ -1,7 +1,6 @@
 -- `next_install`: install's row is left by a record that does not concern it, kept after a fault, else entered.
 use mathlib.Core.Path.{sym, ◌∙◌}
 use native.Mathlib.Omega.{arith}
-use borrow.Author.Tests.{not-true, not-false}
 use Rattle.intake.proofs.Steps.{left, kept, stepped}
 use Rattle.intake.proofs.step.next_install.Goals as goal
 
@@ -16,7 +15,7 @@ returns-then-not-passes c =
     let a = c.args in
     let p = c.passes in
     kept 2 4 (omega arith) a.cap a.log.now a.work.now a.n a.rec.now a.concerned a.position a.rows.now
-    (sym p.ensures ∙ not-true p.result c.if-not-passes.true) (record { tenant = a.tenant })
+    (sym p.ensures ∙ c.if-not-passes.true) (record { tenant = a.tenant })
 
 pub returns : goal.returns
 returns c =
@@ -25,5 +24,5 @@ returns c =
     let e = c.enter in
     let says = c.install-c.ensures in
     stepped 2 4 (omega arith) a.cap a.log.now a.work.now a.n a.rec.now a.concerned a.position a.rows.now
-    (sym p.ensures ∙ not-false p.result c.if-not-passes.false)
+    (sym p.ensures ∙ c.if-not-passes.false)
     _ _ e.ensures (record { tenant = a.tenant }) (λ i v. says i.owners)

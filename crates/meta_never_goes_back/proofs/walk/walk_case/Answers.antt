@@ -1,7 +1,6 @@
 -- Piece by piece: the inner loop finds the name that stands at the cursor and where the piece ends.
 use mathlib.Core.Path.{refl, sym, ◌∙◌}
 use native.Mathlib.Omega.{arith}
-use borrow.Author.Tests.{not-true, not-false}
 use Rattle.rules.proofs.KeyLists.{above_falls}
 use Rattle.rules.proofs.MetaWalks.{walked_start, walked_end, walked_at, walked_on}
 use Rattle.history.proofs.Logs.{record_length}
@@ -12,7 +11,7 @@ pub walk-init : goal.walk-init
 walk-init c = λ m. walked_start c.start_of-start.ensures
 
 pub loop-i-init : goal.loop-i-init
-loop-i-init c = turn_first (omega arith) (omega arith) (record { is = sym c.key_less.ensures ∙ not-false _ c.if-not-key_less.false }) c.name_before-i.ensures.0 c.name_before-i.ensures.1
+loop-i-init c = turn_first (omega arith) (omega arith) (record { is = sym c.key_less.ensures ∙ c.if-not-key_less.false }) c.name_before-i.ensures.0 c.name_before-i.ensures.1
 
 pub key_case-case-requires : goal.key_case-case-requires
 key_case-case-requires c = (omega (arith, c.loop-i.invariant.known, c.requires.0), c.requires.1)
@@ -45,7 +44,7 @@ pub walk-preserved : goal.walk-preserved
 walk-preserved c = λ m. walked_on (c.walk.invariant m) (seen_stand (c.loop-i.invariant.seen m) c.if-i-eq0.true) c.key_case-case.ensures c.loop-i.invariant.up (seen_gap (c.loop-i.invariant.seen m) c.if-i-eq0.true) (sym c.is_fault.ensures ∙ c.if-is_fault.false)
 
 pub returns-then-not-key_less : goal.returns-then-not-key_less
-returns-then-not-key_less c = λ m. walked_end (c.walk.invariant m) c.end_of-end.ensures (record { is = sym c.key_less.ensures ∙ not-true _ c.if-not-key_less.true }) refl
+returns-then-not-key_less c = λ m. walked_end (c.walk.invariant m) c.end_of-end.ensures (record { is = sym c.key_less.ensures ∙ c.if-not-key_less.true }) refl
 
 pub returns-then-is_fault : goal.returns-then-is_fault
-returns-then-is_fault c = λ m. walked_at (c.walk.invariant m) (seen_stand (c.loop-i.invariant.seen m) c.if-i-eq0.true) c.key_case-case.ensures c.end_of-end.ensures (record { is = sym c.key_less.ensures ∙ not-false _ c.if-not-key_less.false }) (sym c.is_fault.ensures ∙ c.if-is_fault.true)
+returns-then-is_fault c = λ m. walked_at (c.walk.invariant m) (seen_stand (c.loop-i.invariant.seen m) c.if-i-eq0.true) c.key_case-case.ensures c.end_of-end.ensures (record { is = sym c.key_less.ensures ∙ c.if-not-key_less.false }) (sym c.is_fault.ensures ∙ c.if-is_fault.true)

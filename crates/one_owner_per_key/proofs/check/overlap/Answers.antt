@@ -2,7 +2,6 @@
 use mathlib.Core.Path.{sym, ap, ◌∙◌}
 use Rattle.record.specs.Records.{decode}
 use Rattle.history.specs.Logs.{hist}
-use borrow.Author.Tests.{not-true, not-false}
 use Rattle.one_owner_per_key.specs.Answers.{rangeIn}
 use Rattle.rules.proofs.Owners.{overlap_unmarked, overlap_other, overlap_met, overlap_apart}
 use Rattle.one_owner_per_key.proofs.check.overlap.Goals as goal
@@ -20,7 +19,7 @@ returns-then-not-is_holding c =
     let x = decode a.rec.now in
     let h = hist a.log.now a.count in
     λ ix. overlap_other x h (sym c.node-marked.ensures ∙ c.in-Marked.is)
-    (sym c.is_holding.ensures ∙ not-true c.is_holding.result c.if-not-is_holding.true)
+    (sym c.is_holding.ensures ∙ c.if-not-is_holding.true)
 
 pub returns-in-Range : goal.returns-in-Range
 returns-in-Range c =
@@ -31,7 +30,7 @@ returns-in-Range c =
     c.node-marked.ensures
     ∙ c.in-Marked.is)
     (sym c.is_holding.ensures
-    ∙ not-false c.is_holding.result c.if-not-is_holding.false)
+    ∙ c.if-not-is_holding.false)
     c.a-range.ensures (c.lowest_meeting-met.ensures ix)
     (ap rangeIn c.in-Range.is)
 
@@ -43,5 +42,5 @@ returns-in-Apart c =
     λ ix. overlap_apart x h (sym c.node-marked.ensures
     ∙ c.in-Marked.is)
     (sym c.is_holding.ensures
-    ∙ not-false c.is_holding.result c.if-not-is_holding.false)
+    ∙ c.if-not-is_holding.false)
     c.a-range.ensures (c.lowest_meeting-met.ensures ix) (ap rangeIn c.in-Apart.is)

@@ -1,9 +1,9 @@
 -- A record that is not chained leaves the area as it is.
-use borrow.Author.Tests.{not-true, not-false}
+use borrow.Author.Tests.{not-false}
 use Rattle.one_owner_per_key.proofs.note.enter_hold.Goals as goal
 
 pub returns-then-not-is_chained : goal.returns-then-not-is_chained
-returns-then-not-is_chained c = rw (← c.is_chained.ensures, not-true c.is_chained.result c.if-not-is_chained.true)
+returns-then-not-is_chained c = rw (← c.is_chained.ensures, c.if-not-is_chained.true)
 
 pub returns : goal.returns
 returns c =

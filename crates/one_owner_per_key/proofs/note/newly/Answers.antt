@@ -1,6 +1,5 @@
 -- A kind 1 or 2 newly holds its range where the node does not hold it.
 use native.Mathlib.Omega.{arith}
-use borrow.Author.Tests.{not-true, not-false}
 use Rattle.record.specs.Records.{decode}
 use Rattle.history.specs.Logs.{hist}
 use Rattle.one_owner_per_key.proofs.Checks.{newly_not, newly_free, newly_held}
@@ -12,7 +11,7 @@ returns-then-not-is_holding c =
     record {
       within = omega arith;
       newly = (λ ix e. newly_not a.node.0 (decode a.rec.now) (hist a.log.now a.count) c.is_holding.ensures
-          (not-true c.is_holding.result c.if-not-is_holding.true), );
+          c.if-not-is_holding.true, );
     }
 
 pub returns-then-held_after-eq0 : goal.returns-then-held_after-eq0
@@ -21,7 +20,7 @@ returns-then-held_after-eq0 c =
     record {
       within = omega arith;
       newly = (λ ix e. newly_free a.node.0 (decode a.rec.now) (hist a.log.now a.count) c.is_holding.ensures
-          (not-false c.is_holding.result c.if-not-is_holding.false)
+          c.if-not-is_holding.false
           c.a.ensures (c.held_after.ensures.held ix e) c.if-held_after-eq0.true, );
     }
 
@@ -31,6 +30,6 @@ returns-else-held_after-eq0 c =
     record {
       within = omega arith;
       newly = (λ ix e. newly_held a.node.0 (decode a.rec.now) (hist a.log.now a.count) c.is_holding.ensures
-          (not-false c.is_holding.result c.if-not-is_holding.false)
+          c.if-not-is_holding.false
           c.a.ensures (c.held_after.ensures.held ix e) c.if-held_after-eq0.false, );
     }

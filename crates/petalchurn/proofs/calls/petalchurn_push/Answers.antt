@@ -1,19 +1,18 @@
 -- `petalchurn_push`: no state is refused; else what `take_into` gives.
 use mathlib.Core.Path.{sym, ◌∙◌}
-use borrow.Author.Tests.{not-true, not-false}
 use Rattle.petalchurn.proofs.CallLaws.{push_unfit}
 use Rattle.petalchurn.proofs.calls.petalchurn_push.Goals as goal
 
 pub returns-then-not-is_state : goal.returns-then-not-is_state
 returns-then-not-is_state c =
     let a = c.args in
-    let none = sym c.is_state.ensures ∙ not-true c.is_state.result c.if-not-is_state.true in
+    let none = sym c.is_state.ensures ∙ c.if-not-is_state.true in
     push_unfit a.state.now a.log.now a.work.now a.rec.now none
 
 pub take_into-requires : goal.take_into-requires
 take_into-requires c =
     let e = c in
-    sym e.is_state.ensures ∙ not-false e.is_state.result e.if-not-is_state.false
+    sym e.is_state.ensures ∙ e.if-not-is_state.false
 
 pub returns : goal.returns
 returns c = c.take_into.ensures

@@ -1,6 +1,5 @@
 -- `petalchurn_tally_enter`: no state; else the entry of its judge.
 use mathlib.Core.Path.{sym, ◌∙◌}
-use borrow.Author.Tests.{not-true, not-false}
 use Rattle.state_words.proofs.States.{state_facts}
 use Rattle.petalchurn.proofs.Campaigns.{tally_unfit, tally_done}
 use Rattle.petalchurn.proofs.entry.petalchurn_tally_enter.Goals as goal
@@ -9,11 +8,11 @@ pub returns-then-not-is_state : goal.returns-then-not-is_state
 returns-then-not-is_state c =
     let asked = c in
     let a = asked.args in
-    let none = sym asked.is_state.ensures ∙ not-true asked.is_state.result c.if-not-is_state.true in
+    let none = sym asked.is_state.ensures ∙ c.if-not-is_state.true in
     tally_unfit a.state.now a.tally.now none
 
 pub read_state-judge-requires : goal.read_state-judge-requires
-read_state-judge-requires c = state_facts _ (sym c.is_state.ensures ∙ not-false c.is_state.result c.if-not-is_state.false)
+read_state-judge-requires c = state_facts _ (sym c.is_state.ensures ∙ c.if-not-is_state.false)
 
 pub returns : goal.returns
 returns c =
@@ -21,5 +20,5 @@ returns c =
     let read = entered in
     let asked = read in
     let a = asked.args in
-    let some = sym asked.is_state.ensures ∙ not-false asked.is_state.result read.if-not-is_state.false in
+    let some = sym asked.is_state.ensures ∙ read.if-not-is_state.false in
     tally_done a.state.now a.tally.now some read.read_state-judge.ensures entered.enter-entered.ensures c.number_of.ensures

@@ -1,6 +1,5 @@
 -- `looked`: no state is refused; else the judge's answer.
 use mathlib.Core.Path.{refl, sym, ◌∙◌}
-use borrow.Author.Tests.{not-true, not-false}
 use Rattle.state_words.proofs.States.{state_facts}
 use Rattle.petalchurn.proofs.AnswerLaws.{looked_unfit, looked_done}
 use Rattle.petalchurn.proofs.lookups.looked.Goals as goal
@@ -9,11 +8,11 @@ pub returns-then-not-is_state : goal.returns-then-not-is_state
 returns-then-not-is_state c =
     let asked = c in
     let a = asked.args in
-    let none = sym asked.is_state.ensures ∙ not-true asked.is_state.result c.if-not-is_state.true in
+    let none = sym asked.is_state.ensures ∙ c.if-not-is_state.true in
     looked_unfit a.question a.state.now a.log.now a.work.now a.out.now none c.answer_of.ensures
 
 pub read_state-judge-requires : goal.read_state-judge-requires
-read_state-judge-requires c = state_facts _ (sym c.is_state.ensures ∙ not-false c.is_state.result c.if-not-is_state.false)
+read_state-judge-requires c = state_facts _ (sym c.is_state.ensures ∙ c.if-not-is_state.false)
 
 pub returns : goal.returns
 returns c =
@@ -21,6 +20,6 @@ returns c =
     let read = looked in
     let asked = read in
     let a = asked.args in
-    let some = sym asked.is_state.ensures ∙ not-false asked.is_state.result read.if-not-is_state.false in
+    let some = sym asked.is_state.ensures ∙ read.if-not-is_state.false in
     looked_done a.question a.state.now a.log.now a.work.now a.out.now looked.look_up-given.result some read.read_state-judge.ensures
     looked.look_up-given.ensures c.number_of.ensures refl c.answer_of-2.ensures

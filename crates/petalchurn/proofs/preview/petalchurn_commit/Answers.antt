@@ -2,7 +2,7 @@
 use mathlib.Core.Path.{◌≡◌, sym, ◌∙◌}
 use mathlib.Core.Bool.{true}
 use native.Mathlib.Omega.{arith}
-use borrow.Author.Tests.{not-true, not-false}
+use borrow.Author.Tests.{not-false}
 use Rattle.state_words.specs.StateWords.{is_state, IsState, judge_in}
 use Rattle.state_words.proofs.States.{state_facts}
 use Rattle.ticket_bytes.proofs.TicketBytes.{current_has}
@@ -24,7 +24,7 @@ module _ (c : Else-not-is_state) where
 pub returns-then-not-is_state : goal.returns-then-not-is_state
 returns-then-not-is_state c =
     let a = c.args in
-    let none = sym c.is_state.ensures ∙ not-true c.is_state.result c.if-not-is_state.true in
+    let none = sym c.is_state.ensures ∙ c.if-not-is_state.true in
     commit_unfit a.state.now a.log.now a.work.now a.ticket.now none
 
 pub bounds-state-0 : goal.bounds-state-0
@@ -40,7 +40,7 @@ returns-then-not-suits c =
     let e = u in
     let a = (s e).args in
     commit_unsuited a.state.now a.log.now a.work.now a.ticket.now (some e)
-    (sym u.suits.ensures ∙ not-true u.suits.result c.if-not-suits.true)
+    (sym u.suits.ensures ∙ c.if-not-suits.true)
 
 pub returns-then-not-is_current : goal.returns-then-not-is_current
 unfolding judge_in
@@ -50,8 +50,8 @@ returns-then-not-is_current c =
     let e = u in
     let a = (s e).args in
     commit_stale a.state.now a.log.now a.work.now a.ticket.now (some e)
-    (sym u.suits.ensures ∙ not-false u.suits.result i.if-not-suits.false)
-    (sym c.is_current.ensures ∙ not-true c.is_current.result c.if-not-is_current.true)
+    (sym u.suits.ensures ∙ i.if-not-suits.false)
+    (sym c.is_current.ensures ∙ c.if-not-is_current.true)
 
 -- where the ticket's count is the judge's
 module _ (c : Else-not-is_current) where

@@ -2,7 +2,7 @@
 use mathlib.Core.Path.{◌≡◌, sym, ◌∙◌}
 use mathlib.Core.Bool.{true, false}
 use native.Mathlib.Omega.{arith}
-use borrow.Author.Tests.{not-true, not-false}
+use borrow.Author.Tests.{not-false}
 use Rattle.state_words.specs.StateWords.{is_state, judge_in}
 use Rattle.state_words.proofs.States.{state_facts}
 use Rattle.petalchurn.specs.Previews.{roomy}
@@ -51,7 +51,7 @@ returns-then-not-is_state c =
     let i = z in
     let e = i in
     let a = (s e).args in
-    let none : is_state a.state.now ≡ false = sym i.is_state.ensures ∙ not-true i.is_state.result i.if-not-is_state.true in
+    let none : is_state a.state.now ≡ false = sym i.is_state.ensures ∙ i.if-not-is_state.true in
     preview_unfit a.state.now a.log.now a.work.now a.rec.now a.reports.now a.ticket.now (has_room e) none
     (front_passes a.reports.now (room_rows a.reports.now a.ticket.now (has_room e)) z.clear.ensures)
     t.clear_ticket.ensures

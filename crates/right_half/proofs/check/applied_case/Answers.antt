@@ -1,7 +1,6 @@
 -- A Took of a registered split, or not.
 use mathlib.Core.Path.{sym, ap, ◌∙◌}
 use Prim.Native.Nat.{ℕ}
-use borrow.Author.Tests.{not-true, not-false}
 use Rattle.record.specs.Records.{decode}
 use Rattle.history.specs.Logs.{hist}
 use Rattle.splits.specs.Numbers.{split_number}
@@ -14,20 +13,20 @@ pub returns-then-not-has_taken : goal.returns-then-not-has_taken
 returns-then-not-has_taken c =
     let a = c.args in
     λ ix m k. half_untaken (decode a.rec.now) (hist a.log.now a.count) a.node m k
-    (sym c.has_taken.ensures ∙ not-true _ c.if-not-has_taken.true)
+    (sym c.has_taken.ensures ∙ c.if-not-has_taken.true)
 
 pub returns-then-k-eq0 : goal.returns-then-k-eq0
 returns-then-k-eq0 c =
     let a = c.args in
     λ ix m k. half_unregistered (decode a.rec.now) (hist a.log.now a.count) a.node m k
-    (sym c.has_taken.ensures ∙ not-false _ c.if-not-has_taken.false)
+    (sym c.has_taken.ensures ∙ c.if-not-has_taken.false)
     (c.split_of-k.ensures.latest ix ∙ rw (c.a.ensures, c.b.ensures)) c.if-k-eq0.true
 
 pub returns : goal.returns
 returns c =
     let a = c.args in
     λ ix m k.
-    let t = sym c.has_taken.ensures ∙ not-false _ c.if-not-has_taken.false in
+    let t = sym c.has_taken.ensures ∙ c.if-not-has_taken.false in
     let e =
     c.split_of-k.ensures.latest ix ∙ ap (λ (i : ℕ). split_number i c.b.result (hist a.log.now a.count))
     c.a.ensures

@@ -2,7 +2,6 @@
 use mathlib.Core.Path.{sym, ap, ◌∙◌}
 use mathlib.Core.Bool.{not}
 use lib.Dec.{eqb, ltb}
-use borrow.Author.Tests.{not-true, not-false}
 use Rattle.record.specs.declared.named.ServerId.{ServerId}
 use Rattle.record.specs.Records.{decode}
 use Rattle.rules.specs.History.{any_of, holds}
@@ -25,7 +24,7 @@ returns-then-not-is_voter c =
     let a = c.args in
     λ ix. lowest_unowed (not (has_hold a.node.0 a.right (hist a.log.now a.count))) (holds (λ b. ltb b a.right) (foundIn a.lowest))
     (sym (c.is_voter.ensures ∙ ap (λ (s : ServerId). any_of (λ v. eqb v s.0) (decode a.found.now).voters)
-    (c.server_of.ensures ix)) ∙ not-true _ c.if-not-is_voter.true)
+    (c.server_of.ensures ix)) ∙ c.if-not-is_voter.true)
 
 pub returns-in-At : goal.returns-in-At
 returns-in-At c =
@@ -40,6 +39,6 @@ returns-in_default c =
     λ ix. lowest_free
     (sym (c.is_voter.ensures
     ∙ ap (λ (s : ServerId). any_of (λ v. eqb v s.0) (decode a.found.now).voters) (c.server_of.ensures ix))
-    ∙ not-false _ c.if-not-is_voter.false)
+    ∙ c.if-not-is_voter.false)
     (lost_held a.node.0 a.right (hist a.log.now a.count) (c.held_by-held.ensures ix.0) c.in_default.is)
     (sym c.is_above.ensures ∙ c.if-is_above.false)

@@ -3,7 +3,7 @@ use mathlib.Core.Path.{sym, ap, ◌∙◌}
 use native.Mathlib.Omega.{arith}
 use mathlib.Core.Bool.{Bool, not, ◌||◌}
 use Prim.Native.Nat.{ℕ}
-use borrow.Author.Tests.{eq-eqb, ne_eqb, not-true, not-false}
+use borrow.Author.Tests.{eq-eqb, ne_eqb}
 use Rattle.record.specs.Records.{decode}
 use Rattle.rules.specs.History.{is_some}
 use Rattle.rules.specs.RightHalf.{restated_with, owes}
@@ -55,7 +55,7 @@ returns-then-not-is_reached c =
     let k = mark_is a.log.now a.node.0 p.within (omega arith) q ix.1.restated c.restated_by-restated.ensures.1 in
     let f = refused_is a.log.now a.node.0 p.within (omega arith) q ix.1.refused c.refused_by-refused.ensures.1 in
     let g = reaches_as a.log.now a.count a.node.0 s ep ei (c.is_reached.ensures ix f) in
-    lacks_unreached x h a.node.0 s r (sym k ∙ ap not (ne_eqb _ 0 c.if-restated-eq0.false)) (g ∙ not-true _ c.if-not-is_reached.true)
+    lacks_unreached x h a.node.0 s r (sym k ∙ ap not (ne_eqb _ 0 c.if-restated-eq0.false)) (g ∙ c.if-not-is_reached.true)
 
 pub was_held-requires : goal.was_held-requires
 was_held-requires c = (
@@ -79,7 +79,7 @@ returns-then-was_held c =
     let f = refused_is a.log.now a.node.0 p.within (omega arith) q ix.1.refused c.refused_by-refused.ensures.1 in
     let g = reaches_as a.log.now a.count a.node.0 s ep ei (c.is_reached.ensures ix f) in
     let i = (sym k ∙ ap not (ne_eqb _ 0 c.if-restated-eq0.false)) in
-    lacks_held x h a.node.0 s r i (g ∙ not-false _ c.if-not-is_reached.false)
+    lacks_held x h a.node.0 s r i (g ∙ c.if-not-is_reached.false)
     (sym (c.was_held.ensures ix (restated_is a.log.now a.node.0 p.within (omega arith) q ix.1.restated
     c.restated_by-restated.ensures.1) f i ∙ ap (λ (n : ℕ). restated_with a.node.0 n h) er) ∙ c.if-was_held.true)
 
@@ -109,7 +109,7 @@ returns-then-is_voter c =
     c.refused_by-refused.ensures.1 in
     let g = reaches_as a.log.now a.count a.node.0 s ep ei (c.is_reached.ensures ix f) in
     let i = (sym k ∙ ap not (ne_eqb _ 0 c.if-restated-eq0.false)) in
-    lacks_owing x h a.node.0 s r i (g ∙ not-false _ c.if-not-is_reached.false)
+    lacks_owing x h a.node.0 s r i (g ∙ c.if-not-is_reached.false)
     (sym (c.was_held.ensures ix
     (restated_is a.log.now a.node.0 p.within (omega arith) q ix.1.restated
     c.restated_by-restated.ensures.1) f i
@@ -134,7 +134,7 @@ returns c =
     c.refused_by-refused.ensures.1 in
     let g = reaches_as a.log.now a.count a.node.0 s ep ei (c.is_reached.ensures ix f) in
     let i = (sym k ∙ ap not (ne_eqb _ 0 c.if-restated-eq0.false)) in
-    lacks_owing x h a.node.0 s r i (g ∙ not-false _ c.if-not-is_reached.false)
+    lacks_owing x h a.node.0 s r i (g ∙ c.if-not-is_reached.false)
     (sym (c.was_held.ensures ix
     (restated_is a.log.now a.node.0 p.within (omega arith) q ix.1.restated
     c.restated_by-restated.ensures.1) f i

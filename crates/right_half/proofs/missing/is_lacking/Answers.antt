@@ -1,7 +1,6 @@
 -- What it holds it does not lack, nor what it has no part in.
 use mathlib.Core.Path.{sym, ap, ◌∙◌}
 use native.Mathlib.Omega.{arith}
-use borrow.Author.Tests.{not-true}
 use Rattle.history.specs.Logs.{hist}
 use Rattle.history.proofs.Logs.{record_bytes, record_length}
 use Rattle.debts.specs.Walk.{has_part}
@@ -32,7 +31,7 @@ returns-then-not-has_part c =
     let a = c.args in
     λ ix d e. lacks_away a.log.now a.count a.node.0 a.t a.right c.requires.1
     (sym (c.has_part.ensures ix ∙ ap (has_part a.log.now a.count a.node.0)
-    (record_bytes a.log.now a.t c.record_at.ensures)) ∙ not-true c.has_part.result c.if-not-has_part.true)
+    (record_bytes a.log.now a.t c.record_at.ensures)) ∙ c.if-not-has_part.true)
 
 pub returns : goal.returns
 returns c =

@@ -29,7 +29,7 @@ loop-i-preserved c =
     (omega arith, name_more a.args.check l.i a.requires.1 c.loop-i-test.true c.if-byte-eq32.false l.invariant.1)
 
 pub overflow_add-result-2 : goal.overflow_add-result-2
-overflow_add-result-2 c = omega (arith, c.requires, c.well-formed)
+overflow_add-result-2 c = omega (arith, c.requires, c.well_formed)
 
 pub shape_of-out : goal.shape_of-out
 shape_of-out c = appended_length c.loop-i.invariant.1

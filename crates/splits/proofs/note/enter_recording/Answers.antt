@@ -1,11 +1,11 @@
 -- A record that records nothing leaves the area as it is.
 use Rattle.record.proofs.Booleans.{never}
 use mathlib.Core.Path.{refl}
-use borrow.Author.Tests.{not-true, not-false}
+use borrow.Author.Tests.{not-false}
 use Rattle.splits.proofs.note.enter_recording.Goals as goal
 
 pub returns-then-not-records : goal.returns-then-not-records
-returns-then-not-records c = record { entered = λ e. never e (not-true c.args.records c.if-not-records.true); left = λ e. refl }
+returns-then-not-records c = record { entered = λ e. never e c.if-not-records.true; left = λ e. refl }
 
 pub returns : goal.returns
 returns c =
