@@ -16,7 +16,7 @@ import sys
 NAME = r"[A-Za-z_0-9α-ωΑ-Ω₀-₉'][A-Za-z0-9_α-ωΑ-Ω₀-₉'\-]*[A-Za-z0-9_α-ωΑ-Ω₀-₉']|[A-Za-z]"
 TOKEN = re.compile(r"(?<![A-Za-z0-9_'\-])(?:" + NAME + r")(?![A-Za-z0-9_'\-])")
 STRING = re.compile(r"\"(?:[^\"\\]|\\.)*\"")
-GENERATED = ("Proof.antt", "Invariants.antt", "Answers.antt")
+GENERATED = ("Proof.antt",)
 
 
 def read(path):

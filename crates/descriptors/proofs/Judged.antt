@@ -68,28 +68,28 @@ differs_is s vs v = refl
 
 module _ (log : List ℕ) (n : ℕ) (x : TraceRecord) (h : History) (index : ℕ) {ra : ℕ} (a : ra ≡ x.a) (vs : List Entry)
     (e : put log n ≡ greatest_up_to ra false index true 0 vs) where
-  found_at : put log n ≡ at_in x.a index vs
-  found_at = e ∙ at_up_to ra index vs ∙ ap (λ (r : ℕ). at_in r index vs) a
+  found_at_lem : put log n ≡ at_in x.a index vs
+  found_at_lem = e ∙ at_up_to ra index vs ∙ ap (λ (r : ℕ). at_in r index vs) a
 
   pub state_none : n ≡ 0 → Clear ≡ statement_fault vs (entry_at index x h)
   unfolding statement_fault
-  state_none z = sym (ap (case_of (differs_fault (entry_at index x h) vs)) (put_none log n z found_at))
+  state_none z = sym (ap (case_of (differs_fault (entry_at index x h) vs)) (put_none log n z found_at_lem))
 
   pub state_some : {bytes : List ℕ} {r : Case} → (n ≡ 0 → ⊥) → bytes ≡ bytes_at (n - 1) log
       → r ≡ differs_case x.a index (held_by (decode bytes)) (held_by x) vs → r ≡ statement_fault vs (entry_at index x h)
   unfolding statement_fault
   state_some z b q =
       q ∙ ap (λ (y : TraceRecord). differs_case x.a index (held_by y) (held_by x) vs) (record_bytes log (n - 1) b)
-      ∙ sym (ap (case_of (differs_fault (entry_at index x h) vs)) (found_some_at log n z found_at) ∙ differs_is (entry_at index x h) vs (put_entry log (n - 1)))
+      ∙ sym (ap (case_of (differs_fault (entry_at index x h) vs)) (found_some_at log n z found_at_lem) ∙ differs_is (entry_at index x h) vs (put_entry log (n - 1)))
 
   pub is_ahead_none : (d : ℕ) → n ≡ 0 → false ≡ holds (λ (v : Entry). ltb v.held.generation d) (at_in x.a index vs)
-  is_ahead_none d z = sym (ap (holds (λ (v : Entry). ltb v.held.generation d)) (put_none log n z found_at))
+  is_ahead_none d z = sym (ap (holds (λ (v : Entry). ltb v.held.generation d)) (put_none log n z found_at_lem))
 
   pub is_ahead_some : (d : ℕ) {dv ds : ℕ} {bytes : List ℕ} → (n ≡ 0 → ⊥) → bytes ≡ bytes_at (n - 1) log → dv ≡ (decode bytes).d → ds ≡ d
       → ltb dv ds ≡ holds (λ (v : Entry). ltb v.held.generation d) (at_in x.a index vs)
   unfolding held_by
   is_ahead_some d z b p q =
-      rw (p, q, record_bytes log (n - 1) b) (sym (ap (holds (λ (v : Entry). ltb v.held.generation d)) (found_some_at log n z found_at)))
+      rw (p, q, record_bytes log (n - 1) b) (sym (ap (holds (λ (v : Entry). ltb v.held.generation d)) (found_some_at log n z found_at_lem)))
 
 -- where the range has no value of a generation, none is above
 module _ (range generation : ℕ) (vs : List Entry) (f : first_at_generation_in range generation vs ≡ none) where

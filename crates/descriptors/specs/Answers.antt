@@ -5,31 +5,31 @@ use Rattle.rules.specs.declared.Case.{Case}
 use Rattle.rules.specs.declared.Found.{Found}
 use Rattle.rules.specs.declared.Found.TheVariants.{At, Nothing}
 use Rattle.record.specs.Records.{TraceRecord}
-use Rattle.rules.specs.History.{holds, is_some, greatestOf, lowestOf}
-use Rattle.rules.specs.Cases.{fault, faultIf, case_of}
-use Rattle.rules.specs.Descriptors.{Entry, Held, heldBy, heldEqb, atIn, puts, states, neither}
+use Rattle.rules.specs.History.{holds, is_some, greatest_of, lowest_of}
+use Rattle.rules.specs.Cases.{fault, fault_if, case_of}
+use Rattle.rules.specs.Descriptors.{Entry, Held, held_by, held_eqb, at_in, puts, states, neither}
 use Rattle.rules.specs.Descriptors as rules
-use Rattle.descriptors.specs.Columns.{statedIndex}
+use Rattle.descriptors.specs.Columns.{stated_index}
 use Rattle.descriptors.specs.declared.role.Applied.{Applied}
 use Rattle.descriptors.specs.declared.role.Applied.TheVariants.{Known, Unknown}
 use Rattle.descriptors.specs.declared.role.Role.{Role}
 use Rattle.descriptors.specs.declared.role.Role.TheVariants.{Puts, States, Neither}
 
 -- the applied index, where one is known
-abbrev pub appliedIs : Applied → Option ℕ
-appliedIs (Known i) = some i
-appliedIs Unknown = none
+abbrev pub applied_is : Applied → Option ℕ
+applied_is (Known i) = some i
+applied_is Unknown = none
 
 -- a record's role
-abbrev pub roleIs : Role → rules.Role
-roleIs (Puts i) = puts i
-roleIs (States i) = states i
-roleIs Neither = neither
+abbrev pub role_is : Role → rules.Role
+role_is (Puts i) = puts i
+role_is (States i) = states i
+role_is Neither = neither
 
 -- "These look-ups give the number of the putting record, or none"
-abbrev pub foundBy : Option Entry → Found
-foundBy none = Nothing
-foundBy (some v) = At v.number
+abbrev pub found_by : Option Entry → Found
+found_by none = Nothing
+found_by (some v) = At v.number
 
 -- the value at a place, as a put asks for it
 abbrev pub at_place : ℕ → ℕ → Entry → Bool
@@ -40,48 +40,48 @@ abbrev pub up_to : ℕ → Bool → ℕ → Bool → ℕ → Entry → Bool
 up_to range free index any generation v =
     eqb v.range range && (free || leb v.index index) && (any || eqb v.held.generation generation)
 
-abbrev pub greatestUpTo : ℕ → Bool → ℕ → Bool → ℕ → List Entry → Option Entry
-greatestUpTo range free index any generation vs = greatestOf (λ v. v.index) (up_to range free index any generation) vs
+abbrev pub greatest_up_to : ℕ → Bool → ℕ → Bool → ℕ → List Entry → Option Entry
+greatest_up_to range free index any generation vs = greatest_of (λ v. v.index) (up_to range free index any generation) vs
 
 -- those above an index, of a generation unless any will do
 abbrev pub above : ℕ → ℕ → Bool → ℕ → Entry → Bool
 above range index any generation v =
     eqb v.range range && ltb index v.index && (any || eqb v.held.generation generation)
 
-abbrev pub lowestAbove : ℕ → ℕ → Bool → ℕ → List Entry → Option Entry
-lowestAbove range index any generation vs = lowestOf (λ v. v.index) (above range index any generation) vs
+abbrev pub lowest_above : ℕ → ℕ → Bool → ℕ → List Entry → Option Entry
+lowest_above range index any generation vs = lowest_of (λ v. v.index) (above range index any generation) vs
 
 -- a statement of a generation at an index: the case where the range took that generation above it
-abbrev pub aheadCase : ℕ → ℕ → ℕ → List Entry → Case
-aheadCase range index generation vs =
-    case_of (λ v. fault 2 (range ∷ index ∷ v.index ∷ [])) (lowestAbove range index false generation vs)
+abbrev pub ahead_case : ℕ → ℕ → ℕ → List Entry → Case
+ahead_case range index generation vs =
+    case_of (λ v. fault 2 (range ∷ index ∷ v.index ∷ [])) (lowest_above range index false generation vs)
 
 -- a statement s at an index that is judged by the value v
-abbrev pub differsCase : ℕ → ℕ → Held → Held → List Entry → Case
-differsCase range index v s vs =
-    faultIf (not (heldEqb v s)) (cond (ltb v.generation s.generation) (aheadCase range index s.generation vs) (fault 3 (range ∷ index ∷ [])))
+abbrev pub differs_case : ℕ → ℕ → Held → Held → List Entry → Case
+differs_case range index v s vs =
+    fault_if (not (held_eqb v s)) (cond (ltb v.generation s.generation) (ahead_case range index s.generation vs) (fault 3 (range ∷ index ∷ [])))
 
--- `fallsBehind`, `goesAgainst` and `newFaulty` of a statement in the record s at an index, by what was found of the range
-abbrev pub fallsBy : Option Entry → ℕ → TraceRecord → ℕ → List Entry → Bool
-fallsBy last generation s index vs =
+-- `falls_behind`, `goes_against` and `new_faulty` of a statement in the record s at an index, by what was found of the range
+abbrev pub falls_by : Option Entry → ℕ → TraceRecord → ℕ → List Entry → Bool
+falls_by last generation s index vs =
     eqb s.d generation
     && not (holds (λ v. ltb index v.index) last)
-    && holds (λ v. ltb v.held.generation s.d) (atIn s.a index vs)
+    && holds (λ v. ltb v.held.generation s.d) (at_in s.a index vs)
 
-abbrev pub againstBy : Option Entry → TraceRecord → TraceRecord → ℕ → List Entry → Bool
-againstBy next x s index vs =
+abbrev pub against_by : Option Entry → TraceRecord → TraceRecord → ℕ → List Entry → Bool
+against_by next x s index vs =
     not (holds (λ v. leb v.index index) next)
-    && not (heldEqb (heldBy x) (heldBy s))
-    && (not (ltb x.d s.d) || is_some (lowestAbove s.a index false s.d vs))
+    && not (held_eqb (held_by x) (held_by s))
+    && (not (ltb x.d s.d) || is_some (lowest_above s.a index false s.d vs))
 
-abbrev pub becomesFaulty : Option Entry → Option Entry → TraceRecord → ℕ → TraceRecord → List Entry → Bool
-becomesFaulty next last x index s vs =
+abbrev pub becomes_faulty : Option Entry → Option Entry → TraceRecord → ℕ → TraceRecord → List Entry → Bool
+becomes_faulty next last x index s vs =
     eqb s.a x.a
-    && cond (ltb (statedIndex s) index) (fallsBy last x.d s (statedIndex s) vs) (againstBy next x s (statedIndex s) vs)
+    && cond (ltb (stated_index s) index) (falls_by last x.d s (stated_index s) vs) (against_by next x s (stated_index s) vs)
 
 -- the case of a statement in the record s that became faulty by the value of the record x at an index
-abbrev pub newCase : ℕ → TraceRecord → TraceRecord → List Entry → Case
-newCase index x s vs =
-    cond (ltb (statedIndex s) index)
-    (fault 2 (s.a ∷ statedIndex s ∷ index ∷ []))
-    (differsCase s.a (statedIndex s) (heldBy x) (heldBy s) vs)
+abbrev pub new_case : ℕ → TraceRecord → TraceRecord → List Entry → Case
+new_case index x s vs =
+    cond (ltb (stated_index s) index)
+    (fault 2 (s.a ∷ stated_index s ∷ index ∷ []))
+    (differs_case s.a (stated_index s) (held_by x) (held_by s) vs)

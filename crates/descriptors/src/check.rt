@@ -8,7 +8,7 @@ ghost use Rattle.rules.specs.Descriptors.{role_of, puts, held_by, standing, stat
 ghost use Rattle.history.specs.Logs.{hist};
 ghost use Rattle.history.specs.Bounds.{Bounds};
 ghost use Rattle.descriptors.specs.Columns.{DescriptorsIndexed, put, statement, stated_index};
-ghost use Rattle.descriptors.specs.Answers.{greatest_up_to, lowest_above, ahead_case, differs_case, fallsBy, againstBy, becomes_faulty, new_case};
+ghost use Rattle.descriptors.specs.Answers.{greatest_up_to, lowest_above, ahead_case, differs_case, falls_by, against_by, becomes_faulty, new_case};
 ghost use Rattle.descriptors.specs.Agreement.{next_in, last_in, new_faulty};
 
 use crate::cells::{stated_below, stated_top};
@@ -153,7 +153,7 @@ fn falls_behind(
     index: u64,
 ) -> bool
     requires { Bounds log.now work.now count cap × ((last ≤ count) × (length s.now ≡ 368)) }
-    ensures { DescriptorsIndexed cap (hist log.now count) work.now → result ≡ fallsBy (put log.now last) generation (decode s.now) index (standing (hist log.now count)) }
+    ensures { DescriptorsIndexed cap (hist log.now count) work.now → result ≡ falls_by (put log.now last) generation (decode s.now) index (standing (hist log.now count)) }
 {
     if d(s) != generation {
         return false;
@@ -188,7 +188,7 @@ fn goes_against(
     index: u64,
 ) -> bool
     requires { Bounds log.now work.now count cap × ((next ≤ count) × ((length rec.now ≡ 368) × (length s.now ≡ 368))) }
-    ensures { DescriptorsIndexed cap (hist log.now count) work.now → result ≡ againstBy (put log.now next) (decode rec.now) (decode s.now) index (standing (hist log.now count)) }
+    ensures { DescriptorsIndexed cap (hist log.now count) work.now → result ≡ against_by (put log.now next) (decode rec.now) (decode s.now) index (standing (hist log.now count)) }
 {
     if stands_up_to(log, next, index) {
         return false;

@@ -6,7 +6,7 @@ ghost use Rattle.rules.specs.Descriptors.{applied, reached, created_role, role_o
 ghost use Rattle.history.specs.Logs.{hist};
 ghost use Rattle.history.specs.Bounds.{Bounds};
 ghost use Rattle.descriptors.specs.Columns.{DescriptorsIndexed};
-ghost use Rattle.descriptors.specs.Answers.{appliedIs, roleIs};
+ghost use Rattle.descriptors.specs.Answers.{applied_is, role_is};
 
 use crate::cells::{applied_below, applied_top};
 use history::bucket::bucket_by_two;
@@ -60,7 +60,7 @@ pub fn applied_of(
     range: u64,
 ) -> Applied
     requires { Bounds log.now work.now count cap }
-    ensures { DescriptorsIndexed cap (hist log.now count) work.now → appliedIs result ≡ applied id range (hist log.now count) }
+    ensures { DescriptorsIndexed cap (hist log.now count) work.now → applied_is result ≡ applied id range (hist log.now count) }
 {
     let mut i = applied_top(work, cap, bucket_by_two(cap, id as u64, range), count);
     while 0 < i {
@@ -74,7 +74,7 @@ pub fn applied_of(
 }
 
 fn at_least(known: Applied, index: u64) -> bool
-    ensures { result ≡ holds (λ x. leb index x) (appliedIs known) }
+    ensures { result ≡ holds (λ x. leb index x) (applied_is known) }
 {
     match known {
         Applied::Known(x) => index <= x,
@@ -94,7 +94,7 @@ fn is_reached(log: &[u8], work: &[u64], count: usize, cap: usize, rec: &[u8]) ->
 }
 
 fn created_role(by: RangeCause, floor: u64) -> Role
-    ensures { roleIs result ≡ created_role by floor }
+    ensures { role_is result ≡ created_role by floor }
 {
     match by {
         RangeCause::Bootstrap => Role::Puts(floor),
@@ -106,7 +106,7 @@ fn created_role(by: RangeCause, floor: u64) -> Role
 // The role of a record over those of the log.
 pub fn role_of(log: &[u8], work: &[u64], count: usize, cap: usize, rec: &[u8]) -> Role
     requires { Bounds log.now work.now count cap × (length rec.now ≡ 368) }
-    ensures { DescriptorsIndexed cap (hist log.now count) work.now → roleIs result ≡ role_of (decode rec.now) (hist log.now count) }
+    ensures { DescriptorsIndexed cap (hist log.now count) work.now → role_is result ≡ role_of (decode rec.now) (hist log.now count) }
 {
     let k = kind(rec);
     if k == 1 {

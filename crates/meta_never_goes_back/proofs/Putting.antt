@@ -50,8 +50,8 @@ standing_at : (log : List ℕ) (n : ℕ) {v : Entry} → Mem v (standing (hist l
 unfolding standing
 standing_at log n m = told_at log n (told_by tells_put (hist log n) (firsts_told same_place tells_put (hist log n) m))
 
-pub found_at : (range generation : ℕ) (log : List ℕ) (n : ℕ) (v : Entry) → first_at_generation range generation (hist log n) ≡ some v → PutAt log n v
-found_at range generation log n v e = by_found (first_at_generation range generation (hist log n)) e (first_at_generation_right range generation (hist log n))
+pub found_at_lem : (range generation : ℕ) (log : List ℕ) (n : ℕ) (v : Entry) → first_at_generation range generation (hist log n) ≡ some v → PutAt log n v
+found_at_lem range generation log n v e = by_found (first_at_generation range generation (hist log n)) e (first_at_generation_right range generation (hist log n))
   where
     by_found : (o : Option Entry) → o ≡ some v
         → Looked (Having range generation) (Soonest (Having range generation) (standing (hist log n))) (standing (hist log n)) o → PutAt log n v
@@ -101,7 +101,7 @@ module _ (x : TraceRecord) (log : List ℕ) where
       where
         go : (o : Option Entry) → first_at_generation x.a x.d (hist log n) ≡ o → r ≡ named_fault x o
         go none u = none_at (ap found_by (sym u) ∙ sym e ∙ q)
-        go (some v) u = by_entry v (found_at x.a x.d log n v u) (ap found_by (sym u) ∙ sym e ∙ q) t
+        go (some v) u = by_entry v (found_at_lem x.a x.d log n v u) (ap found_by (sym u) ∙ sym e ∙ q) t
 
     -- it gave nothing
     pub named_none : {r : Case} → f ≡ Nothing → r ≡ fault 1 (x.a ∷ x.d ∷ x.b ∷ []) → r ≡ named_fault x (first_at_generation x.a x.d (hist log n))

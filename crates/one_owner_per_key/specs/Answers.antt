@@ -2,7 +2,7 @@
 use Rattle.std.specs.Prelude.{Bool, true, not, List, ℕ, eqb, ltb}
 use Rattle.std.proofs.Math.Option.{Option, none, some}
 use Rattle.record.specs.Records.{Span}
-use Rattle.rules.specs.OneOwnerPerKey.{isNamed}
+use Rattle.rules.specs.OneOwnerPerKey.{is_named}
 use Rattle.one_owner_per_key.specs.declared.group.Group.{Group}
 use Rattle.one_owner_per_key.specs.declared.group.Group.TheVariants.{Named, Unnamed}
 use Rattle.one_owner_per_key.specs.declared.meeting.Meeting.{Meeting}
@@ -11,21 +11,21 @@ use Rattle.one_owner_per_key.specs.declared.meeting.Others.{Others}
 use Rattle.one_owner_per_key.specs.declared.meeting.Others.TheVariants.{Than, NotNamed}
 
 -- the group that a start names
-abbrev pub groupIn : Group → Option ℕ
-groupIn (Named g) = some g
-groupIn Unnamed = none
+abbrev pub group_in : Group → Option ℕ
+group_in (Named g) = some g
+group_in Unnamed = none
 
 -- the range that was met
-abbrev pub rangeIn : Meeting → Option ℕ
-rangeIn (Range r) = some r
-rangeIn Apart = none
+abbrev pub range_in : Meeting → Option ℕ
+range_in (Range r) = some r
+range_in Apart = none
 
 -- overlap looks at the ranges other than the record's own, install at those that no start in the record names
 abbrev pub passes : Others → List Span → ℕ → Bool
 passes (Than own) ss r = not (eqb r own)
-passes (NotNamed tenant) ss r = not (isNamed tenant ss r)
+passes (NotNamed tenant) ss r = not (is_named tenant ss r)
 
 -- a range is below the lowest so far
-abbrev pub isBelow : ℕ → Option ℕ → Bool
-isBelow r none = true
-isBelow r (some b) = ltb r b
+abbrev pub is_below : ℕ → Option ℕ → Bool
+is_below r none = true
+is_below r (some b) = ltb r b

@@ -5,7 +5,7 @@ ghost use Rattle.record.specs.Numbers.{part, big_endian};
 ghost use Rattle.record.specs.Records.{decode};
 ghost use Rattle.rules.specs.History.{holds};
 ghost use Rattle.rules.specs.OneOwnerPerKey.{group_of, is_named};
-ghost use Rattle.one_owner_per_key.specs.Answers.{groupIn};
+ghost use Rattle.one_owner_per_key.specs.Answers.{group_in};
 
 use history::span::start_of;
 use record::field::span_count;
@@ -38,7 +38,7 @@ fn big64(s: &[u8], at: usize) -> u64
 
 // The group that the key in a place names.
 pub fn group_of(place: &[u8], tenant: u64) -> Group
-    ensures { groupIn result ≡ group_of tenant (key_in place.now) }
+    ensures { group_in result ≡ group_of tenant (key_in place.now) }
 {
     let start = key(place);
     if start.len() < 16 {

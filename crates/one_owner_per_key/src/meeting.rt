@@ -10,7 +10,7 @@ ghost use Rattle.history.specs.Bounds.{Bounds};
 ghost use Rattle.history.specs.Logs.{hist};
 ghost use Rattle.one_owner_per_key.specs.Numbers.{latest_end};
 ghost use Rattle.one_owner_per_key.specs.Columns.{OwnersIndexed};
-ghost use Rattle.one_owner_per_key.specs.Answers.{rangeIn, is_below};
+ghost use Rattle.one_owner_per_key.specs.Answers.{range_in, is_below};
 ghost use Rattle.one_owner_per_key.specs.Answers as answer;
 
 use crate::cells::{end_by, latest_newly, newly_before};
@@ -83,7 +83,7 @@ fn is_met(
 
 // Whether a range is below the lowest so far.
 fn is_below(range: u64, best: Meeting) -> bool
-    ensures { result ≡ is_below range (rangeIn best) }
+    ensures { result ≡ is_below range (range_in best) }
 {
     match best {
         Meeting::Range(b) => range < b,
@@ -106,7 +106,7 @@ fn lowered(
     best: Meeting,
 ) -> Meeting
     requires { Bounds log.now work.now count cap × ((length rec.now ≡ 368) × (k < 4)) }
-    ensures { OwnersIndexed cap (hist log.now count) work.now → ended ≡ latest_end node.0 (hist log.now count) → rangeIn result ≡ cond (answer.passes others (decode rec.now).spans range && holds (rule.meets (span_of k (decode rec.now))) (hold_of node.0 range (hist log.now count))) (lower (λ n. n) range (rangeIn best)) (rangeIn best) }
+    ensures { OwnersIndexed cap (hist log.now count) work.now → ended ≡ latest_end node.0 (hist log.now count) → range_in result ≡ cond (answer.passes others (decode rec.now).spans range && holds (rule.meets (span_of k (decode rec.now))) (hold_of node.0 range (hist log.now count))) (lower (λ n. n) range (range_in best)) (range_in best) }
 {
     if is_below(range, best) {
         if passes(rec, others, range) {
@@ -130,7 +130,7 @@ pub fn lowest_meeting(
     others: Others,
 ) -> Meeting
     requires { Bounds log.now work.now count cap × ((length rec.now ≡ 368) × (k < 4)) }
-    ensures { OwnersIndexed cap (hist log.now count) work.now → rangeIn result ≡ lowest_meeting (answer.passes others (decode rec.now).spans) (span_of k (decode rec.now)) node.0 (hist log.now count) }
+    ensures { OwnersIndexed cap (hist log.now count) work.now → range_in result ≡ lowest_meeting (answer.passes others (decode rec.now).spans) (span_of k (decode rec.now)) node.0 (hist log.now count) }
 {
     let last = latest_of(log, work, count, cap, count, node);
     let ended = end_by(work, cap, last);

@@ -13,7 +13,7 @@ ghost use Rattle.history.specs.Logs.{hist};
 ghost use Rattle.history.specs.Bounds.{Bounds};
 ghost use Rattle.splits.specs.Numbers.{split_number, named_number};
 ghost use Rattle.splits.specs.Columns.{Known};
-ghost use Rattle.right_half.specs.Answers.{foundIn};
+ghost use Rattle.right_half.specs.Answers.{found_in};
 
 use crate::lacking::lowest_lacking;
 use crate::missing::lowest_missing;
@@ -81,7 +81,7 @@ fn lowest_case(
     lowest: Found,
 ) -> Case
     requires { Bounds log.now work.now count cap }
-    ensures { Known cap (hist log.now count) work.now → foundIn lowest ≡ lowest_of (λ n. n) (is_missing node.0 (hist log.now count)) (map (λ s. s.right) (registered (hist log.now count))) → result ≡ missing_fault kind node.0 (hist log.now count) }
+    ensures { Known cap (hist log.now count) work.now → found_in lowest ≡ lowest_of (λ n. n) (is_missing node.0 (hist log.now count)) (map (λ s. s.right) (registered (hist log.now count))) → result ≡ missing_fault kind node.0 (hist log.now count) }
 {
     match lowest {
         Found::At(right) => missing_case(log, work, count, cap, kind, node, right),
@@ -100,7 +100,7 @@ fn restated_case(log: &[u8], work: &[u64], count: usize, cap: usize, node: NodeI
 
 // Whether the lowest so far is below a range.
 fn is_above(right: u64, lowest: Found) -> bool
-    ensures { result ≡ holds (λ b. ltb b right) (foundIn lowest) }
+    ensures { result ≡ holds (λ b. ltb b right) (found_in lowest) }
 {
     match lowest {
         Found::At(b) => b < right,
@@ -121,7 +121,7 @@ fn is_lowest(
     lowest: Found,
 ) -> bool
     requires { Bounds log.now work.now count cap × (length found.now ≡ 368) }
-    ensures { Known cap (hist log.now count) work.now → result ≡ (any_of (λ v. eqb v (server_of node.0 (hist log.now count)).0) (decode found.now).voters && not (has_hold node.0 right (hist log.now count)) && not (holds (λ b. ltb b right) (foundIn lowest))) }
+    ensures { Known cap (hist log.now count) work.now → result ≡ (any_of (λ v. eqb v (server_of node.0 (hist log.now count)).0) (decode found.now).voters && not (has_hold node.0 right (hist log.now count)) && not (holds (λ b. ltb b right) (found_in lowest))) }
 {
     if is_above(right, lowest) {
         return false;

@@ -9,7 +9,7 @@ ghost use Rattle.history.specs.Logs.{hist};
 ghost use Rattle.history.specs.Bounds.{Bounds};
 ghost use Rattle.splits.specs.Numbers.{restated_number, refused_number};
 ghost use Rattle.splits.specs.Columns.{Known};
-ghost use Rattle.right_half.specs.Answers.{foundIn, lowered_by};
+ghost use Rattle.right_half.specs.Answers.{found_in, lowered_by};
 
 use crate::missing::is_below;
 use debts::owed::{cancel_of, is_reached, owes_by};
@@ -118,7 +118,7 @@ fn lowered_by(
     best: Found,
 ) -> Found
     requires { Bounds log.now work.now count cap × ((length rec.now ≡ 368) × (length found.now ≡ 368)) }
-    ensures { Known cap (hist log.now count) work.now → (s : Registered) → registers (decode rec.now) (hist log.now count) ≡ some s → parent ≡ s.parent → index ≡ s.index → right ≡ s.right → foundIn result ≡ lowered_by (lacks s (decode rec.now) (hist log.now count)) (decode found.now).node (foundIn best) }
+    ensures { Known cap (hist log.now count) work.now → (s : Registered) → registers (decode rec.now) (hist log.now count) ≡ some s → parent ≡ s.parent → index ≡ s.index → right ≡ s.right → found_in result ≡ lowered_by (lacks s (decode rec.now) (hist log.now count)) (decode found.now).node (found_in best) }
 {
     let marked = field::node(found);
     let Node::Marked(node) = marked else {
@@ -145,7 +145,7 @@ pub fn lowest_lacking(
     right: u64,
 ) -> Found
     requires { Bounds log.now work.now count cap × (length rec.now ≡ 368) }
-    ensures { Known cap (hist log.now count) work.now → (s : Registered) → registers (decode rec.now) (hist log.now count) ≡ some s → parent ≡ s.parent → index ≡ s.index → right ≡ s.right → foundIn result ≡ lowest_of (λ n. n) (lacks s (decode rec.now) (hist log.now count)) (nodes_of (hist log.now count)) }
+    ensures { Known cap (hist log.now count) work.now → (s : Registered) → registers (decode rec.now) (hist log.now count) ≡ some s → parent ≡ s.parent → index ≡ s.index → right ≡ s.right → found_in result ≡ lowest_of (λ n. n) (lacks s (decode rec.now) (hist log.now count)) (nodes_of (hist log.now count)) }
 {
     let mut best = Found::Nothing;
     let mut i = recorded_top(work, cap, count, parent);

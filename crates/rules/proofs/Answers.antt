@@ -11,5 +11,5 @@ pub found_some : (n : ℕ) → (n ≡ 0 → ⊥) → At n ≡ found_at n
 found_some zero z = absurd (z refl)
 found_some (suc n) z = refl
 
-pub found-at : {n k : ℕ} → n ≡ k → (n ≡ 0 → ⊥) → At n ≡ found_at k
-found-at {n} e z = found_some n z ∙ ap found_at e
+pub found_at_lem : {n k : ℕ} → n ≡ k → (n ≡ 0 → ⊥) → At n ≡ found_at k
+found_at_lem {n} e z = found_some n z ∙ ap found_at e

@@ -2,15 +2,15 @@
 use mathlib.Core.Path.{refl, sym, ap, ◌∙◌}
 use Rattle.record.specs.Records.{decode}
 use Rattle.history.specs.Logs.{hist}
-use Rattle.descriptors.specs.Answers.{roleIs}
+use Rattle.descriptors.specs.Answers.{role_is}
 use Rattle.descriptors.proofs.Noting.{told_states, told_neither}
 use Rattle.descriptors.proofs.note.told_of.Goals as goal
 
 pub returns-in-Puts : goal.returns-in-Puts
-returns-in-Puts c = let a = c.args in λ k. c.told_put.ensures k (sym (c.role_of.ensures k) ∙ ap roleIs c.in-Puts.is)
+returns-in-Puts c = let a = c.args in λ k. c.told_put.ensures k (sym (c.role_of.ensures k) ∙ ap role_is c.in-Puts.is)
 
 pub returns-in-States : goal.returns-in-States
-returns-in-States c = let a = c.args in λ k. told_states (decode a.rec.now) (hist a.log.now a.count) c.in-States.field-0 (sym (c.role_of.ensures k) ∙ ap roleIs c.in-States.is) refl
+returns-in-States c = let a = c.args in λ k. told_states (decode a.rec.now) (hist a.log.now a.count) c.in-States.field-0 (sym (c.role_of.ensures k) ∙ ap role_is c.in-States.is) refl
 
 pub returns-in-Neither : goal.returns-in-Neither
-returns-in-Neither c = let a = c.args in λ k. told_neither (decode a.rec.now) (hist a.log.now a.count) (sym (c.role_of.ensures k) ∙ ap roleIs c.in-Neither.is) refl
+returns-in-Neither c = let a = c.args in λ k. told_neither (decode a.rec.now) (hist a.log.now a.count) (sym (c.role_of.ensures k) ∙ ap role_is c.in-Neither.is) refl

@@ -2,7 +2,7 @@
 use mathlib.Core.Path.{sym, ap, ◌∙◌}
 use Rattle.record.specs.Records.{decode}
 use Rattle.history.specs.Logs.{hist}
-use Rattle.one_owner_per_key.specs.Answers.{rangeIn}
+use Rattle.one_owner_per_key.specs.Answers.{range_in}
 use Rattle.rules.proofs.Owners.{overlap_unmarked, overlap_other, overlap_met, overlap_apart}
 use Rattle.one_owner_per_key.proofs.check.overlap.Goals as goal
 
@@ -32,7 +32,7 @@ returns-in-Range c =
     (sym c.is_holding.ensures
     ∙ c.if-not-is_holding.false)
     c.a-range.ensures (c.lowest_meeting-met.ensures ix)
-    (ap rangeIn c.in-Range.is)
+    (ap range_in c.in-Range.is)
 
 pub returns-in-Apart : goal.returns-in-Apart
 returns-in-Apart c =
@@ -43,4 +43,4 @@ returns-in-Apart c =
     ∙ c.in-Marked.is)
     (sym c.is_holding.ensures
     ∙ c.if-not-is_holding.false)
-    c.a-range.ensures (c.lowest_meeting-met.ensures ix) (ap rangeIn c.in-Apart.is)
+    c.a-range.ensures (c.lowest_meeting-met.ensures ix) (ap range_in c.in-Apart.is)

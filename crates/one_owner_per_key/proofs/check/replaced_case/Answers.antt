@@ -4,7 +4,7 @@ use Rattle.record.specs.Records.{decode}
 use Rattle.history.specs.Logs.{hist}
 use Rattle.rules.specs.Descriptors.{span_of}
 use Rattle.rules.specs.OneOwnerPerKey.{group_of}
-use Rattle.one_owner_per_key.specs.Answers.{groupIn, rangeIn}
+use Rattle.one_owner_per_key.specs.Answers.{group_in, range_in}
 use Rattle.rules.proofs.Owners.{replaced_named, replaced_met, replaced_apart}
 use Rattle.one_owner_per_key.proofs.check.replaced_case.Goals as goal
 
@@ -15,7 +15,7 @@ returns-in-Named c =
     let h = hist a.log.now a.count in
     let s = span_of a.k x in
     λ ix. replaced_named a.tenant x h a.node.0 s
-    (c.group_of-named.ensures ∙ ap (group_of a.tenant) c.start_of.ensures) (ap groupIn c.in-Named.is)
+    (c.group_of-named.ensures ∙ ap (group_of a.tenant) c.start_of.ensures) (ap group_in c.in-Named.is)
 
 pub returns-in-Range : goal.returns-in-Range
 returns-in-Range c =
@@ -26,8 +26,8 @@ returns-in-Range c =
     λ ix. c.fault_of.ensures ∙ replaced_met a.tenant x h a.node.0 s
     (c.group_of-named.ensures
     ∙ ap (group_of a.tenant) c.start_of.ensures)
-    (ap groupIn c.in_default.is) (c.lowest_meeting-met.ensures ix)
-    (ap rangeIn c.in-Range.is)
+    (ap group_in c.in_default.is) (c.lowest_meeting-met.ensures ix)
+    (ap range_in c.in-Range.is)
 
 pub returns-in-Apart : goal.returns-in-Apart
 returns-in-Apart c =
@@ -38,4 +38,4 @@ returns-in-Apart c =
     λ ix. replaced_apart a.tenant x h a.node.0 s
     (c.group_of-named.ensures
     ∙ ap (group_of a.tenant) c.start_of.ensures)
-    (ap groupIn c.in_default.is) (c.lowest_meeting-met.ensures ix) (ap rangeIn c.in-Apart.is)
+    (ap group_in c.in_default.is) (c.lowest_meeting-met.ensures ix) (ap range_in c.in-Apart.is)

@@ -1,7 +1,7 @@
 -- The node's latest record says its latest end.
 use mathlib.Core.Path.{◌∙◌}
 use Rattle.one_owner_per_key.proofs.AsOf.{end_is}
-use Rattle.rules.proofs.Answers.{found_none, found_at}
+use Rattle.rules.proofs.Answers.{found_none, found_at_lem}
 use Rattle.one_owner_per_key.proofs.held.held_by.Goals as goal
 
 pub returns-then-k-eq0 : goal.returns-then-k-eq0
@@ -22,4 +22,4 @@ returns-else-k-eq0 c =
     let e =
     c.end_by-ended.ensures.1 ∙ end_is a.log.now a.count a.node.0 ix p.0.within p.1
     (c.latest_of-last.ensures.latest ix) in
-    found_at (c.held_after-k.ensures.held ix e) c.if-k-eq0.false
+    found_at_lem (c.held_after-k.ensures.held ix e) c.if-k-eq0.false

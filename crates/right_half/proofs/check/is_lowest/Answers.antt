@@ -8,7 +8,7 @@ use Rattle.rules.specs.History.{any_of, holds}
 use Rattle.rules.specs.OneOwnerPerKey.{has_hold}
 use Rattle.rules.specs.RightHalf.{server_of}
 use Rattle.history.specs.Logs.{hist}
-use Rattle.right_half.specs.Answers.{foundIn}
+use Rattle.right_half.specs.Answers.{found_in}
 use Rattle.one_owner_per_key.proofs.Checks.{found_held, lost_held}
 use Rattle.right_half.proofs.Checks.{lowest_above, lowest_unowed, lowest_held, lowest_free}
 use Rattle.right_half.proofs.check.is_lowest.Goals as goal
@@ -22,7 +22,7 @@ returns-then-is_above c =
 pub returns-then-not-is_voter : goal.returns-then-not-is_voter
 returns-then-not-is_voter c =
     let a = c.args in
-    λ ix. lowest_unowed (not (has_hold a.node.0 a.right (hist a.log.now a.count))) (holds (λ b. ltb b a.right) (foundIn a.lowest))
+    λ ix. lowest_unowed (not (has_hold a.node.0 a.right (hist a.log.now a.count))) (holds (λ b. ltb b a.right) (found_in a.lowest))
     (sym (c.is_voter.ensures ∙ ap (λ (s : ServerId). any_of (λ v. eqb v s.0) (decode a.found.now).voters)
     (c.server_of.ensures ix)) ∙ c.if-not-is_voter.true)
 
@@ -30,7 +30,7 @@ pub returns-in-At : goal.returns-in-At
 returns-in-At c =
     let a = c.args in
     λ ix. lowest_held (any_of (λ v. eqb v (server_of a.node.0 (hist a.log.now a.count)).0) (decode a.found.now).voters)
-    (holds (λ b. ltb b a.right) (foundIn a.lowest))
+    (holds (λ b. ltb b a.right) (found_in a.lowest))
     (found_held a.node.0 a.right (hist a.log.now a.count) (c.held_by-held.ensures ix.0) c.in-At.is)
 
 pub returns-in_default : goal.returns-in_default

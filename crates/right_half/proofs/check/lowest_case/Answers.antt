@@ -1,17 +1,17 @@
 -- By whether there is one.
 use mathlib.Core.Path.{sym, ap, ◌∙◌}
 use Rattle.history.specs.Logs.{hist}
-use Rattle.right_half.specs.Answers.{foundIn}
+use Rattle.right_half.specs.Answers.{found_in}
 use Rattle.rules.proofs.Missing.{missing_none, missing_some}
 use Rattle.right_half.proofs.check.lowest_case.Goals as goal
 
 pub returns-in-At : goal.returns-in-At
 returns-in-At c =
     let a = c.args in
-    λ ix e. missing_some a.kind a.node.0 (hist a.log.now a.count) (ap foundIn (sym c.in-At.is) ∙ e)
+    λ ix e. missing_some a.kind a.node.0 (hist a.log.now a.count) (ap found_in (sym c.in-At.is) ∙ e)
     (c.missing_case.ensures ix)
 
 pub returns-in-Nothing : goal.returns-in-Nothing
 returns-in-Nothing c =
     let a = c.args in
-    λ ix e. missing_none a.kind a.node.0 (hist a.log.now a.count) (ap foundIn (sym c.in-Nothing.is) ∙ e)
+    λ ix e. missing_none a.kind a.node.0 (hist a.log.now a.count) (ap found_in (sym c.in-Nothing.is) ∙ e)

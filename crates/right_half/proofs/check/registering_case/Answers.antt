@@ -2,7 +2,7 @@
 use mathlib.Core.Path.{sym, ap, ◌∙◌}
 use Rattle.record.specs.Records.{decode}
 use Rattle.splits.specs.Splits.{split_with}
-use Rattle.right_half.specs.Answers.{foundIn}
+use Rattle.right_half.specs.Answers.{found_in}
 use Rattle.right_half.proofs.Registering.{unregistered_clear, found_fault, none_clear}
 use Rattle.splits.proofs.Registered.{named_split, right_range}
 use Rattle.right_half.proofs.check.registering_case.Goals as goal
@@ -34,7 +34,7 @@ returns-in-At c =
     found_fault a.log.now a.count x e c.if-named-eq0.false
     c.in-At.node c.parent_of-parent.ensures
     c.b-index.ensures r
-    (ap foundIn (sym c.in-At.is)
+    (ap found_in (sym c.in-At.is)
     ∙ c.lowest_lacking-lowest.ensures ix (split_with a.log.now x a.named) s
     c.parent_of-parent.ensures c.b-index.ensures r)
     c.fault_of.ensures
@@ -48,5 +48,5 @@ returns-in-Nothing c =
     let r =
     c.right_of-right.ensures (right_range a.log.now a.count x e c.if-named-eq0.false) in
     none_clear a.log.now a.count x e c.if-named-eq0.false
-    (ap foundIn (sym c.in-Nothing.is) ∙ c.lowest_lacking-lowest.ensures ix (split_with a.log.now x a.named) s
+    (ap found_in (sym c.in-Nothing.is) ∙ c.lowest_lacking-lowest.ensures ix (split_with a.log.now x a.named) s
     c.parent_of-parent.ensures c.b-index.ensures r)
