@@ -105,15 +105,14 @@ returns-in-12 c = arm c (ap concerned_bits c.in-12.is ∙ bits_12) c.sound-in-12
 -- no arm's kind: 0, or past 12
 pub returns-in_default : goal.returns-in_default
 returns-in_default c =
-    let p = c in
-    let a = p.args in
+    let a = c.args in
     let k = byte_at 0 a.rec.now in
     let n = c.in_default-1.rest in
     let n11 : k ≡ 11 → ⊥ = n.0.0.1 in
     let n12 : k ≡ 12 → ⊥ = n.0.1 in
     let o : 1 ≤ k → k ≤ 12 → ⊥ = λ l h. ⊎_elim (λ t. omega (arith, t.taken)) (λ t. omega (arith, t.1.left)) c.in_default.branch in
-    let r : refusal_of a.rec.now ≡ 2 = wrong_kind a.rec.now p.if-rec-ne-RECORD_SIZE.false o in
-    decided_form a.cap a.count a.log.now a.words a.rec.now k 2 (λ z. omega arith) (suited p) r
+    let r : refusal_of a.rec.now ≡ 2 = wrong_kind a.rec.now c.if-rec-ne-RECORD_SIZE.false o in
+    decided_form a.cap a.count a.log.now a.words a.rec.now k 2 (λ z. omega arith) (suited c) r
 
 -- the kinds that no check names: 4, or one that no arm before has
 unnamed : (c : In-4-2) → concerned_bits (byte_at 0 c.args.rec.now) ≡ 0

@@ -32,21 +32,18 @@ module _ (c : After-number_of-form) where
 
 pub returns-then-form-ne0 : goal.returns-then-form-ne0
 returns-then-form-ne0 c =
-    let p = c in
-    ap (λ (f : ℕ). 256 + f) (form p) ∙ sound_form (drawn p) (lost p) (full p) (s p).args.concerned (λ z. c.if-form-ne0.true (form p ∙ z))
+    ap (λ (f : ℕ). 256 + f) (form c) ∙ sound_form (drawn c) (lost c) (full c) (s c).args.concerned (λ z. c.if-form-ne0.true (form c ∙ z))
 
 -- .. which is 0 past the first test
 none : (c : Else-form-ne0) → drawn c ≡ 0
 none c = sym (form c) ∙ c.if-form-ne0.false
 
 pub stray-requires : goal.stray-requires
-stray-requires c = let p = c in ((s p).requires, sized (s p).args.rec.now (none c))
+stray-requires c = ((s c).requires, sized (s c).args.rec.now (none c))
 
 pub returns-then-stray : goal.returns-then-stray
 returns-then-stray c =
-    let e = c in
-    let p = e in
-    sound_lost (drawn p) (lost p) (full p) (s p).args.concerned (none e) (sym c.stray.ensures ∙ c.if-stray.true)
+    sound_lost (drawn c) (lost c) (full c) (s c).args.concerned (none c) (sym c.stray.ensures ∙ c.if-stray.true)
 
 -- past the second the record has an event to continue, or begins one
 kept : (c : Else-stray) → lost c ≡ false
@@ -54,12 +51,8 @@ kept c = sym c.stray.ensures ∙ c.if-stray.false
 
 pub returns-then-count-cap : goal.returns-then-count-cap
 returns-then-count-cap c =
-    let e = c in
-    let p = e in
-    sound_full (drawn p) (lost p) (full p) (s p).args.concerned (none e) (kept c) (eq-eqb _ _ c.if-count-cap.true)
+    sound_full (drawn c) (lost c) (full c) (s c).args.concerned (none c) (kept c) (eq-eqb _ _ c.if-count-cap.true)
 
 pub returns : goal.returns
 returns c =
-    let e = c in
-    let p = e in
-    sound_clear (drawn p) (lost p) (full p) (s p).args.concerned (none e) (kept c) (ne_eqb _ _ c.if-count-cap.false)
+    sound_clear (drawn c) (lost c) (full c) (s c).args.concerned (none c) (kept c) (ne_eqb _ _ c.if-count-cap.false)

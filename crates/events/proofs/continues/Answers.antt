@@ -4,4 +4,4 @@ use lib.Dec.{eqb}
 use Rattle.events.proofs.continues.Goals as goal
 
 pub returns : goal.returns
-returns c = eqb (c.kind.ensures i) 12 && eqb (c.flag.ensures i) 1
+returns c i = eqb (c.kind.ensures i) 12 && eqb (c.flag.ensures i) 1

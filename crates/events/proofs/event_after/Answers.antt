@@ -23,13 +23,12 @@ module _ (c : After-continues) where
   test = ap (λ (b : Bool). b || eqb n most) c.continues.ensures
 
 pub returns-then-continues-events : goal.returns-then-continues-events
-returns-then-continues-events c = let p = c in sym (ap (λ (b : Bool). cond b (n p) (n p + 1)) (sym (test p) ∙ c.if-continues-events.true))
+returns-then-continues-events c = sym (ap (λ (b : Bool). cond b (n c) (n c + 1)) (sym (test c) ∙ c.if-continues-events.true))
 
 pub overflow_add-result : goal.overflow_add-result
 overflow_add-result c =
-    let p = c in
-    let d = not_most p.continues.result (n p) c.if-continues-events.false in
-    omega (arith, p.ranges.events)
+    let d = not_most c.continues.result (n c) c.if-continues-events.false in
+    omega (arith, c.ranges.events)
 
 pub returns : goal.returns
-returns c = let p = c in sym (ap (λ (b : Bool). cond b (n p) (n p + 1)) (sym (test p) ∙ c.if-continues-events.false))
+returns c = sym (ap (λ (b : Bool). cond b (n c) (n c + 1)) (sym (test c) ∙ c.if-continues-events.false))

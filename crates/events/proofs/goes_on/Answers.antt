@@ -9,11 +9,9 @@ use Rattle.events.proofs.goes_on.Goals as goal
 
 pub returns : goal.returns
 returns c =
-    let m = c in
-    let k = m in
-    let a = k.args in
+    let a = c.args in
     let x : TraceRecord = decode a.rec.now in
     let y : TraceRecord = decode a.last.now in
-    let node : eqb m.node_number.result m.node_number-2.result ≡ same_node x.node y.node =
-    (λ i. eqb (m.node_number.ensures i) (m.node_number-2.ensures i)) ∙ same_number x.node y.node in
-    λ i. eqb (k.kind.ensures i) 12 && node i && eqb (c.b.ensures i) (c.b-2.ensures i)
+    let node : eqb c.node_number.result c.node_number-2.result ≡ same_node x.node y.node =
+    (λ i. eqb (c.node_number.ensures i) (c.node_number-2.ensures i)) ∙ same_number x.node y.node in
+    λ i. eqb (c.kind.ensures i) 12 && node i && eqb (c.b.ensures i) (c.b-2.ensures i)

@@ -5,8 +5,7 @@ use Rattle.events.proofs.node_number.Goals as goal
 
 pub returns-in-Marked : goal.returns-in-Marked
 returns-in-Marked c =
-    let m = c in
-    sym (ap node_number (sym m.node.ensures ∙ m.in-Marked.is))
+    sym (ap node_number (sym c.node.ensures ∙ c.in-Marked.is))
 
 pub returns-in-Missing : goal.returns-in-Missing
 returns-in-Missing c = sym (ap node_number (sym c.node.ensures ∙ c.in-Missing.is))

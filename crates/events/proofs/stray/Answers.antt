@@ -23,28 +23,24 @@ module _ (c : After-continues) where
 
 pub returns-then-not-continues : goal.returns-then-not-continues
 returns-then-not-continues c =
-    let p = c in
-    let begins : continues (x p) ≡ false = sym p.continues.ensures ∙ c.if-not-continues.true in
-    sym (stray_begins (x p) (log p) (n p) begins)
+    let begins : continues (x c) ≡ false = sym c.continues.ensures ∙ c.if-not-continues.true in
+    sym (stray_begins (x c) (log c) (n c) begins)
 
 -- past the first test the record continues
 goes : (c : Else-not-continues) → continues (x c) ≡ true
-goes c = let p = c in sym p.continues.ensures ∙ c.if-not-continues.false
+goes c = sym c.continues.ensures ∙ c.if-not-continues.false
 
 pub returns-then-n-eq0 : goal.returns-then-n-eq0
-returns-then-n-eq0 c = let p = c in sym (stray_first (x p) (log p) (n p) (goes c) c.if-n-eq0.true)
+returns-then-n-eq0 c = sym (stray_first (x c) (log c) (n c) (goes c) c.if-n-eq0.true)
 
 pub goes_on-requires : goal.goes_on-requires
 goes_on-requires c =
-    let s = c in
-    let l = s.requires.0 in
+    let l = c.requires.0 in
     let z = c.if-n-eq0.false in
-    (s.requires.1, record_length s.args.log.now (s.args.n - 1) c.record_at.ensures (omega arith))
+    (c.requires.1, record_length c.args.log.now (c.args.n - 1) c.record_at.ensures (omega arith))
 
 pub returns : goal.returns
 returns c =
-    let e = c in
-    let p = e in
-    let some : 0 < n p = let z = c.if-n-eq0.false in omega arith in
-    ap (λ (b : Bool). not b) (c.goes_on.ensures ∙ ap (goes_on (x p)) (record_bytes (log p) (n p - 1) c.record_at.ensures))
-    ∙ sym (stray_after (x p) (log p) (n p) (goes e) some)
+    let some : 0 < n c = let z = c.if-n-eq0.false in omega arith in
+    ap (λ (b : Bool). not b) (c.goes_on.ensures ∙ ap (goes_on (x c)) (record_bytes (log c) (n c - 1) c.record_at.ensures))
+    ∙ sym (stray_after (x c) (log c) (n c) (goes c) some)

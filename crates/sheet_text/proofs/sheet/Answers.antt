@@ -15,20 +15,13 @@ append_lines-end-requires c = omega arith
 
 pub append_last-requires : goal.append_last-requires
 append_last-requires c =
-    let c1 = c in
-    let c2 = c1 in
-    room_after c1.append_lines-end.ensures 82 (omega (arith, c2.if-out-lt-SHEET_SIZE.false))
+    room_after c.append_lines-end.ensures 82 (omega (arith, c.if-out-lt-SHEET_SIZE.false))
 
 pub shape_of-out : goal.shape_of-out
 shape_of-out c =
-    let c1 = c in
-    let c2 = c1 in
-    appended_length (c2.append_lines-end.ensures ⨾ c1.append_last.ensures)
+    appended_length (c.append_lines-end.ensures ⨾ c.append_last.ensures)
 
 pub returns : goal.returns
 unfolding sheet_text
 returns c =
-    let whole = (let c1 = c in
-    let c2 = c1 in
-    let c3 = c2 in
-    long_sheet c3.if-out-lt-SHEET_SIZE.false (c2.append_lines-end.ensures ⨾ c1.append_last.ensures)) in record { value = whole.0; out_after = whole.1 }
+    let whole = (long_sheet c.if-out-lt-SHEET_SIZE.false (c.append_lines-end.ensures ⨾ c.append_last.ensures)) in record { value = whole.0; out_after = whole.1 }

@@ -12,18 +12,16 @@ loop-i-init c = (omega arith, refl, refl)
 
 pub loop-i-preserved : goal.loop-i-preserved
 loop-i-preserved c =
-    let s = c in
     let l = c.loop-i in
     let t = c.loop-i-test.true in
     let n = length-set l.out l.i _ ∙ l.invariant.1 in
-    let e = s.requires.0 in
-    (omega arith, n, l.invariant.2 ∙ copy_next l.out s.args.state.now header_size l.i (omega arith))
+    let e = c.requires.0 in
+    (omega arith, n, l.invariant.2 ∙ copy_next l.out c.args.state.now header_size l.i (omega arith))
 
 pub returns : goal.returns
 returns c =
-    let s = c in
     let l = c.loop-i in
     let t = c.loop-i-test.false in
-    let e = s.requires.0 in
-    sym (l.invariant.2 ∙ copy_end l.out s.args.state.now header_size l.i (omega arith))
-    ∙ rows_front s.args.state.now s.args.out.now e s.requires.1
+    let e = c.requires.0 in
+    sym (l.invariant.2 ∙ copy_end l.out c.args.state.now header_size l.i (omega arith))
+    ∙ rows_front c.args.state.now c.args.out.now e c.requires.1

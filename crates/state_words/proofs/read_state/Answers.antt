@@ -4,5 +4,4 @@ use Rattle.state_words.proofs.read_state.Goals as goal
 
 pub returns : goal.returns
 returns c =
-    let read = c in
-    judge_read read.args.state.now read.read_rows-reports.ensures
+    judge_read c.args.state.now c.read_rows-reports.ensures

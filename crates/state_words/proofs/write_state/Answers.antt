@@ -9,10 +9,9 @@ pub write_rows-requires : goal.write_rows-requires
 write_rows-requires c = simp length-set (omega arith)
 
 pub shape_of-state : goal.shape_of-state
-shape_of-state c = c.write_rows.auto.0 ∙ simp length-set
+shape_of-state c = c.write_rows.auto.out ∙ simp length-set
 
 pub returns : goal.returns
 returns c =
-    let start = c in
     let w = c.write_rows.ensures in
-    w.is ∙ state_written start.args.state.now start.args.judge start.requires w.many
+    w.is ∙ state_written c.args.state.now c.args.judge c.requires w.many

@@ -4,9 +4,6 @@ use Rattle.tally.proofs.enter.Goals as goal
 
 pub returns : goal.returns
 returns c =
-    let done = c in
-    let fitted = done in
-    let found = fitted in
-    let a = found.args in
-    let f = fitted.fits2.ensures in
-    enters a.tally.now a.judge _ found.find_places.ensures f.0 f.1 done.enter_places-refusal.ensures
+    let a = c.args in
+    let f = c.fits2.ensures in
+    enters a.tally.now a.judge _ c.find_places.ensures f.0 f.1 c.enter_places-refusal.ensures

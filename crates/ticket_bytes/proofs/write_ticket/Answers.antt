@@ -8,9 +8,6 @@ use Rattle.ticket_bytes.proofs.write_ticket.Goals as goal
 
 pub returns : goal.returns
 returns c =
-    let written = c in
-    let counted = written in
-    let s = counted in
-    let n = length_part 8 376 counted.write_number.new.0 (omega (arith, counted.write_number.auto.0, s.requires.0)) in
-    ticket_written s.args.out.now s.args.rec.now s.args.count s.requires.0 counted.write_number.ensures
-    (appended_whole written.append.ensures refl n)
+    let n = length_part 8 376 c.write_number.new.s (omega (arith, c.write_number.auto.s, c.requires.0)) in
+    ticket_written c.args.out.now c.args.rec.now c.args.count c.requires.0 c.write_number.ensures
+    (appended_whole c.append.ensures refl n)

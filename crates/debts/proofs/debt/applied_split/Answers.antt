@@ -20,13 +20,13 @@ returns-then-k-eq0 c =
     let a = c.args in
     record {
       within = omega arith;
-      is = (λ ix. applied_none a.log.now a.at a.right a.server.0
+      is = λ ix. applied_none a.log.now a.at a.right a.server.0
           (c.split_of-k.ensures.latest ix ∙ rw (
             c.a.ensures,
             c.b.ensures,
             record_bytes a.log.now a.at
                 c.record_at-rec.ensures,
-          )) c.if-k-eq0.true, );
+          )) c.if-k-eq0.true;
     }
 
 pub returns-then-is_voted : goal.returns-then-is_voted
@@ -34,7 +34,7 @@ returns-then-is_voted c =
     let a = c.args in
     record {
       within = c.split_of-k.ensures.within;
-      is = (λ ix. applied_some a.log.now a.at a.right a.server.0
+      is = λ ix. applied_some a.log.now a.at a.right a.server.0
           (c.split_of-k.ensures.latest ix
           ∙ rw (
             c.a.ensures,
@@ -42,7 +42,7 @@ returns-then-is_voted c =
             record_bytes a.log.now a.at
                 c.record_at-rec.ensures,
           )) c.if-k-eq0.false (c.is_voted.ensures ix)
-          c.if-is_voted.true, );
+          c.if-is_voted.true;
     }
 
 pub returns-else-is_voted : goal.returns-else-is_voted
@@ -50,7 +50,7 @@ returns-else-is_voted c =
     let a = c.args in
     record {
       within = omega arith;
-      is = (λ ix. applied_not a.log.now a.at a.right a.server.0
+      is = λ ix. applied_not a.log.now a.at a.right a.server.0
           (c.split_of-k.ensures.latest ix
           ∙ rw (
             c.a.ensures,
@@ -58,5 +58,5 @@ returns-else-is_voted c =
             record_bytes a.log.now a.at
                 c.record_at-rec.ensures,
           )) c.if-k-eq0.false (c.is_voted.ensures ix)
-          c.if-is_voted.false, );
+          c.if-is_voted.false;
     }

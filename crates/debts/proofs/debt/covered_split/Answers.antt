@@ -9,7 +9,7 @@ use Rattle.debts.proofs.debt.covered_split.Goals as goal
 
 pub registering_by-i-requires : goal.registering_by-i-requires
 registering_by-i-requires c =
-    (c.requires.0.work-holds, (omega (arith, c.requires.0, c.requires.1), c.requires.0.small))
+    (c.requires.0.work_holds, (omega (arith, c.requires.0, c.requires.1), c.requires.0.small))
 
 pub loop-i-init : goal.loop-i-init
 loop-i-init c =
@@ -43,7 +43,7 @@ greater_split-best-requires c = (
 
 pub registering_by-i-requires-in-loop-i : goal.registering_by-i-requires-in-loop-i
 registering_by-i-requires-in-loop-i c = (
-  c.requires.0.work-holds,
+  c.requires.0.work_holds,
   (omega (arith, c.requires.0, c.requires.1, c.loop-i.invariant.0), c.requires.0.small),
 
 )
@@ -72,5 +72,5 @@ returns c =
     let a = c.args in
     record {
       within = c.loop-i.invariant.1.0;
-      is = (λ ix. cover_end a.log.now a.at a.right a.server.0 (omega arith) (c.loop-i.invariant.1.1 ix), );
+      is = λ ix. cover_end a.log.now a.at a.right a.server.0 (omega arith) (c.loop-i.invariant.1.1 ix);
     }

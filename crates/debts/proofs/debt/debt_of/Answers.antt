@@ -16,8 +16,8 @@ returns-then-k-ne0 c =
     let d = c.debt_at-k in
     record {
       within = omega (arith, d.ensures.within, l.invariant.0);
-      owed = (λ ix. owes_found a.log.now a.node.0 a.right a.count d.result c.loop-i-test.true (l.invariant.1 ix)
-          (d.ensures.arises ix) (d.ensures.found ix c.if-k-ne0.true), );
+      owed = λ ix. owes_found a.log.now a.node.0 a.right a.count d.result c.loop-i-test.true (l.invariant.1 ix)
+          (d.ensures.arises ix) (d.ensures.found ix c.if-k-ne0.true);
     }
 
 pub loop-i-preserved : goal.loop-i-preserved
@@ -36,6 +36,6 @@ returns c =
     c.args in
     record {
       within = omega arith;
-      owed = (λ ix. owes_end a.log.now a.node.0 a.right a.count (omega arith)
-          (c.loop-i.invariant.1 ix), );
+      owed = λ ix. owes_end a.log.now a.node.0 a.right a.count (omega arith)
+          (c.loop-i.invariant.1 ix);
     }

@@ -23,10 +23,10 @@ returns-then-owes_first c =
     let a = c.args in
     record {
       within = omega arith;
-      is = (λ ix. first_some a.log.now a.at a.node.0 a.right
+      is = λ ix. first_some a.log.now a.at a.node.0 a.right
           (sym (c.is_right.ensures ix) ∙ c.if-is_right.true)
           (sym (c.owes_first.ensures ix ∙ ap (owes_first a.log.now a.at a.node.0)
-          (record_bytes a.log.now a.at c.record_at.ensures)) ∙ c.if-owes_first.true), );
+          (record_bytes a.log.now a.at c.record_at.ensures)) ∙ c.if-owes_first.true);
     }
 
 pub returns-else-owes_first : goal.returns-else-owes_first
@@ -34,10 +34,10 @@ returns-else-owes_first c =
     let a = c.args in
     record {
       within = omega arith;
-      is = (λ ix. first_not a.log.now a.at a.node.0 a.right
+      is = λ ix. first_not a.log.now a.at a.node.0 a.right
           (sym (c.is_right.ensures ix) ∙ c.if-is_right.true)
           (sym (c.owes_first.ensures ix ∙ ap (owes_first a.log.now a.at a.node.0)
-          (record_bytes a.log.now a.at c.record_at.ensures)) ∙ c.if-owes_first.false), );
+          (record_bytes a.log.now a.at c.record_at.ensures)) ∙ c.if-owes_first.false);
     }
 
 pub returns-else-is_right : goal.returns-else-is_right
@@ -46,6 +46,6 @@ returns-else-is_right c =
     c.args in
     record {
       within = omega arith;
-      is = (λ ix. first_other a.log.now a.at a.node.0 a.right
-          (sym (c.is_right.ensures ix) ∙ c.if-is_right.false), );
+      is = λ ix. first_other a.log.now a.at a.node.0 a.right
+          (sym (c.is_right.ensures ix) ∙ c.if-is_right.false);
     }

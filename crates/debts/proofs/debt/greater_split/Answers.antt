@@ -13,8 +13,8 @@ returns-then-is_covered c =
     c.args in
     record {
       within = omega arith;
-      is = (λ ix. greater_new (a.t + 1) a.best c.is_above.ensures c.if-is_above.true
-          (c.is_covered.ensures ix) c.if-is_covered.true, );
+      is = λ ix. greater_new (a.t + 1) a.best c.is_above.ensures c.if-is_above.true
+          (c.is_covered.ensures ix) c.if-is_covered.true;
     }
 
 pub returns-else-is_covered : goal.returns-else-is_covered
@@ -23,8 +23,8 @@ returns-else-is_covered c =
     c.args in
     record {
       within = omega arith;
-      is = (λ ix. greater_other (a.t + 1) a.best c.is_above.ensures c.if-is_above.true
-          (c.is_covered.ensures ix) c.if-is_covered.false, );
+      is = λ ix. greater_other (a.t + 1) a.best c.is_above.ensures c.if-is_above.true
+          (c.is_covered.ensures ix) c.if-is_covered.false;
     }
 
 pub returns-else-is_above : goal.returns-else-is_above
@@ -33,6 +33,6 @@ returns-else-is_above c =
     c.args in
     record {
       within = omega arith;
-      is = (λ ix. greater_not (a.t + 1) a.best c.is_above.ensures
-          (holds (is_covered (record_at a.log.now a.at) a.right a.server.0) (placed_split a.log.now a.t)) c.if-is_above.false, );
+      is = λ ix. greater_not (a.t + 1) a.best c.is_above.ensures
+          (holds (is_covered (record_at a.log.now a.at) a.right a.server.0) (placed_split a.log.now a.t)) c.if-is_above.false;
     }

@@ -20,7 +20,7 @@ returns-then-named-eq0 c =
 
 pub right_of-requires : goal.right_of-requires
 right_of-requires c = (
-  c.requires.0.log-holds,
+  c.requires.0.log_holds,
   record_length c.args.log.now
       c.args.t c.record_at.ensures
       (omega (arith, c.requires.0, c.requires.1)),

@@ -22,8 +22,8 @@ returns-then-not-is_by c =
     let y = record_bytes a.log.now a.at c.record_at-rec.ensures in
     record {
       within = omega arith;
-      is = (λ ix. own_other a.log.now a.at a.node.0 a.right
-          (sym (c.is_by.ensures ∙ ap (λ (z : TraceRecord). is_by a.node.0 z) y) ∙ c.if-not-is_by.true), );
+      is = λ ix. own_other a.log.now a.at a.node.0 a.right
+          (sym (c.is_by.ensures ∙ ap (λ (z : TraceRecord). is_by a.node.0 z) y) ∙ c.if-not-is_by.true);
     }
 
 pub kind-requires : goal.kind-requires
@@ -50,8 +50,8 @@ returns-then-kind-has_taken c =
     (c.has_taken.ensures ∙ ap (λ (z : TraceRecord). has_effect Took z) y) c.if-kind-has_taken.true in
     record {
       within = omega (arith, c.applied_split.ensures.within);
-      is = (λ ix. own_applied a.log.now a.at a.node.0 a.right b t (c.server_of-server.ensures ix)
-          (c.applied_split.ensures.is ix), );
+      is = λ ix. own_applied a.log.now a.at a.node.0 a.right b t (c.server_of-server.ensures ix)
+          (c.applied_split.ensures.is ix);
     }
 
 pub kind-requires-2 : goal.kind-requires-2
@@ -75,10 +75,10 @@ returns-then-kind-is_restated c =
     c.if-kind-has_taken.false in
     record {
       within = c.covered_split.ensures.within;
-      is = (λ ix. own_covered a.log.now a.at a.node.0 a.right b t
+      is = λ ix. own_covered a.log.now a.at a.node.0 a.right b t
           (records_test (record_at a.log.now a.at) (c.kind-2.ensures ∙ ap (λ (z : TraceRecord). z.kind) y)
           (c.is_restated.ensures ix) c.if-kind-is_restated.true)
-          (c.server_of-server.ensures ix) (c.covered_split.ensures.is ix), );
+          (c.server_of-server.ensures ix) (c.covered_split.ensures.is ix);
     }
 
 pub returns : goal.returns
@@ -94,7 +94,7 @@ returns c =
     (c.has_taken.ensures ∙ ap (λ (z : TraceRecord). has_effect Took z) y) c.if-kind-has_taken.false in
     record {
       within = omega arith;
-      is = (λ ix. own_neither a.log.now a.at a.node.0 a.right b t
+      is = λ ix. own_neither a.log.now a.at a.node.0 a.right b t
           (records_test (record_at a.log.now a.at) (c.kind-2.ensures ∙ ap (λ (z : TraceRecord). z.kind) y)
-          (c.is_restated.ensures ix) c.if-kind-is_restated.false), );
+          (c.is_restated.ensures ix) c.if-kind-is_restated.false);
     }

@@ -9,7 +9,7 @@ use Rattle.debts.proofs.owed.is_applied_first.Goals as goal
 
 pub refused_by-refused-requires : goal.refused_by-refused-requires
 refused_by-refused-requires c =
-    (c.requires.0.work-holds, (omega (arith, c.requires.0), c.requires.0.small))
+    (c.requires.0.work_holds, (omega (arith, c.requires.0), c.requires.0.small))
 
 pub is_reached-requires : goal.is_reached-requires
 is_reached-requires c = (c.requires.0, c.requires.1.0)
@@ -41,7 +41,7 @@ returns-then-latest_asked-ne0 c =
 
 pub restated_by-requires : goal.restated_by-requires
 restated_by-requires c = (
-  c.requires.0.work-holds,
+  c.requires.0.work_holds,
   (omega (arith, c.requires.0), c.requires.0.small),
 
 )

@@ -33,7 +33,7 @@ record_at-requires c = omega (arith, c.requires.0)
 
 pub mark_at-requires : goal.mark_at-requires
 mark_at-requires c = (
-  c.requires.0.work-holds,
+  c.requires.0.work_holds,
   (omega (arith, c.requires.0, c.loop-i.invariant.0), c.requires.0.small),
 
 )
@@ -51,19 +51,19 @@ returns-then-i-top c =
     let p = c.requires in
     record {
       within = leb-true l.i a.top (and_left (leb l.i a.top) c.is_asked_of.result c.if-i-top.true);
-      latest = (λ ix.
+      latest = λ ix.
           above_found
           (walk_hit (by_asked a.cap a.asked a.node.0 a.range) a.log.now a.top (omega arith) (l.invariant.1 ix)
           (asks_test a.log.now a.node.0 ix.1 p.0.within (l.i - 1) (omega (arith, l.invariant.0)) a.asked a.range
           c.mark_at.ensures (c.is_asked_of.ensures ∙ ap
           (λ (y : TraceRecord). is_by a.node.0 y && eqb y.a a.range && asks_kind a.asked y (not (eqb c.mark_at.result 0)))
           (record_bytes a.log.now _ c.record_at.ensures))) c.if-i-top.true)
-          c.loop-i-test.true, );
+          c.loop-i-test.true;
     }
 
 pub hold_below-i-requires : goal.hold_below-i-requires
 hold_below-i-requires c = (
-  c.requires.0.work-holds,
+  c.requires.0.work_holds,
   (omega (arith, c.requires.0, c.loop-i.invariant.0), c.requires.0.small),
 
 )
@@ -93,6 +93,6 @@ returns c =
     let a = c.args in
     record {
       within = omega arith;
-      latest = (λ ix. walk_low (asks a.asked a.node.0 a.range) (by_hold a.cap) (bucket_by_two a.cap a.node.0 a.range) a.log.now
-          a.top c.loop-i-test.false (c.loop-i.invariant.1 ix), );
+      latest = λ ix. walk_low (asks a.asked a.node.0 a.range) (by_hold a.cap) (bucket_by_two a.cap a.node.0 a.range) a.log.now
+          a.top c.loop-i-test.false (c.loop-i.invariant.1 ix);
     }

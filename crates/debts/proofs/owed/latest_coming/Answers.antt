@@ -33,14 +33,14 @@ record_at-requires c = omega (arith, c.requires.0)
 
 pub mark_at-requires : goal.mark_at-requires
 mark_at-requires c = (
-  c.requires.0.work-holds,
+  c.requires.0.work_holds,
   (omega (arith, c.requires.0, c.loop-i.invariant.0), c.requires.0.small),
 
 )
 
 pub server_at-requires : goal.server_at-requires
 server_at-requires c = (
-  c.requires.0.work-holds,
+  c.requires.0.work_holds,
   (omega (arith, c.requires.0, c.loop-i.invariant.0), c.requires.0.small),
 
 )
@@ -72,7 +72,7 @@ returns-then-is_coming c =
 
 pub hold_below-i-requires : goal.hold_below-i-requires
 hold_below-i-requires c = (
-  c.requires.0.work-holds,
+  c.requires.0.work_holds,
   (omega (arith, c.requires.0, c.loop-i.invariant.0), c.requires.0.small),
 
 )

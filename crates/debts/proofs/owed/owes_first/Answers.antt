@@ -28,7 +28,7 @@ is_applied_first-requires c = (
 
 pub server_by-requires : goal.server_by-requires
 server_by-requires c = (
-  c.requires.0.work-holds,
+  c.requires.0.work_holds,
   (omega (arith, c.latest_of-last.ensures.within, c.requires.0, c.requires.1.0), c.requires.0.small),
 
 )

@@ -13,24 +13,20 @@ returns-then-same_held c = λ k. rw (sym c.same_held.ensures.answer ∙ c.if-sam
 
 pub returns-then-d : goal.returns-then-d
 returns-then-d c =
-    let if2 = c in
-    let if1 = if2 in
-    let args = if1.args in
+    let args = c.args in
     let value = decode args.value.now in
     let stated = decode args.stated.now in
     let vs = standing (hist args.log.now args.count) in
-    let other = sym if1.same_held.ensures.answer ∙ if1.if-same_held.false in
-    let lower : value.d < stated.d = omega (arith, if2.d.ensures, if2.d-2.ensures, if2.if-d.true) in
+    let other = sym c.same_held.ensures.answer ∙ c.if-same_held.false in
+    let lower : value.d < stated.d = omega (arith, c.d.ensures, c.d-2.ensures, c.if-d.true) in
     λ k. differs_ahead value stated args.index vs other lower c.a.ensures c.d-then-d.ensures (c.ahead_case.ensures k)
 
 pub returns : goal.returns
 returns c =
-    let if2 = c in
-    let if1 = if2 in
-    let args = if1.args in
+    let args = c.args in
     let value = decode args.value.now in
     let stated = decode args.stated.now in
     let vs = standing (hist args.log.now args.count) in
-    let other = sym if1.same_held.ensures.answer ∙ if1.if-same_held.false in
-    let not_lower : stated.d ≤ value.d = omega (arith, if2.d.ensures, if2.d-2.ensures, if2.if-d.false) in
+    let other = sym c.same_held.ensures.answer ∙ c.if-same_held.false in
+    let not_lower : stated.d ≤ value.d = omega (arith, c.d.ensures, c.d-2.ensures, c.if-d.false) in
     λ k. differs_behind value stated args.index vs other not_lower c.a-2.ensures c.fault.ensures

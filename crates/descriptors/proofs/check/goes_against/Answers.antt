@@ -10,17 +10,14 @@ returns-then-stands_up_to c = λ k. rw (sym c.stands_up_to.ensures ∙ c.if-stan
 
 pub returns-then-same_held : goal.returns-then-same_held
 returns-then-same_held c =
-    let if1 = c in
-    let above = sym if1.stands_up_to.ensures ∙ if1.if-stands_up_to.false in
+    let above = sym c.stands_up_to.ensures ∙ c.if-stands_up_to.false in
     λ k. rw (above, sym c.same_held.ensures.answer ∙ c.if-same_held.true)
 
 pub returns-then-d : goal.returns-then-d
 returns-then-d c =
-    let if2 = c in
-    let if1 = if2 in
-    let args = if1.args in
-    let above = sym if1.stands_up_to.ensures ∙ if1.if-stands_up_to.false in
-    let other = sym if2.same_held.ensures.answer ∙ if2.if-same_held.false in
+    let args = c.args in
+    let above = sym c.stands_up_to.ensures ∙ c.if-stands_up_to.false in
+    let other = sym c.same_held.ensures.answer ∙ c.if-same_held.false in
     let put = decode args.rec.now in
     let stated = decode args.s.now in
     let order = le-ltb put.d stated.d (omega (arith, c.d.ensures, c.d-2.ensures, c.if-d.true)) in
@@ -28,13 +25,10 @@ returns-then-d c =
 
 pub returns : goal.returns
 returns c =
-    let if3 = c in
-    let if2 = if3 in
-    let if1 = if2 in
-    let args = if1.args in
-    let above = sym if1.stands_up_to.ensures ∙ if1.if-stands_up_to.false in
-    let other = sym if2.same_held.ensures.answer ∙ if2.if-same_held.false in
+    let args = c.args in
+    let above = sym c.stands_up_to.ensures ∙ c.if-stands_up_to.false in
+    let other = sym c.same_held.ensures.answer ∙ c.if-same_held.false in
     let put = decode args.rec.now in
     let stated = decode args.s.now in
-    let order = lt-ltb put.d stated.d (omega (arith, if3.d.ensures, if3.d-2.ensures, if3.if-d.false)) in
+    let order = lt-ltb put.d stated.d (omega (arith, c.d.ensures, c.d-2.ensures, c.if-d.false)) in
     λ k. rw (above, other, order) (c.is_taken_above.ensures k)

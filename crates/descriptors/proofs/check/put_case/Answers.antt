@@ -12,49 +12,40 @@ use Rattle.descriptors.proofs.check.put_case.Goals as goal
 
 pub returns-then-n-eq0 : goal.returns-then-n-eq0
 returns-then-n-eq0 c =
-    let if1 = c in
-    let found = if1 in
-    let args = found.args in
+    let args = c.args in
     let log = args.log.now in
     let x = decode args.rec.now in
     let h = hist log args.count in
     λ k role clear.
-    let place = place_is x h args.index (standing h) found.a.ensures (found.standing_at-n.ensures.1 k) in
-    c.new_put_case.ensures k role (place_free log found.standing_at-n.result x h args.index place if1.if-n-eq0.true) clear
+    let place = place_is x h args.index (standing h) c.a.ensures (c.standing_at-n.ensures.1 k) in
+    c.new_put_case.ensures k role (place_free log c.standing_at-n.result x h args.index place c.if-n-eq0.true) clear
 
 pub same_held-requires : goal.same_held-requires
 same_held-requires c =
-    let found = c in
-    let entry = found in
-    let log = entry.args.log.now in
-    let place = found.standing_at-n.result - 1 in
-    let within : 368 * place + 368 ≤ length log = omega (arith, entry.requires.0, found.standing_at-n.ensures.0, c.if-n-eq0.false) in
-    (record_length log place c.record_at.ensures within, entry.requires.1)
+    let log = c.args.log.now in
+    let place = c.standing_at-n.result - 1 in
+    let within : 368 * place + 368 ≤ length log = omega (arith, c.requires.0, c.standing_at-n.ensures.0, c.if-n-eq0.false) in
+    (record_length log place c.record_at.ensures within, c.requires.1)
 
 pub returns-then-same_held : goal.returns-then-same_held
 returns-then-same_held c =
-    let if1 = c in
-    let found = if1 in
-    let args = found.args in
+    let args = c.args in
     let log = args.log.now in
     let x = decode args.rec.now in
     let h = hist log args.count in
     let same = sym c.same_held.ensures.answer ∙ c.if-same_held.true in
     λ k role clear.
-    let place = place_is x h args.index (standing h) found.a.ensures (found.standing_at-n.ensures.1 k) in
-    put_same log found.standing_at-n.result x h args.index place role clear if1.if-n-eq0.false c.record_at.ensures same
+    let place = place_is x h args.index (standing h) c.a.ensures (c.standing_at-n.ensures.1 k) in
+    put_same log c.standing_at-n.result x h args.index place role clear c.if-n-eq0.false c.record_at.ensures same
 
 pub returns : goal.returns
 returns c =
-    let if2 = c in
-    let if1 = if2 in
-    let found = if1 in
-    let args = found.args in
+    let args = c.args in
     let log = args.log.now in
     let x = decode args.rec.now in
     let h = hist log args.count in
-    let bytes = if2.record_at.ensures in
-    let other = sym if2.same_held.ensures.answer ∙ if2.if-same_held.false in
+    let bytes = c.record_at.ensures in
+    let other = sym c.same_held.ensures.answer ∙ c.if-same_held.false in
     λ k role clear.
-    let place = place_is x h args.index (standing h) found.a.ensures (found.standing_at-n.ensures.1 k) in
-    put_differs log found.standing_at-n.result x h args.index place role clear if1.if-n-eq0.false bytes other c.a-2.ensures c.fault.ensures
+    let place = place_is x h args.index (standing h) c.a.ensures (c.standing_at-n.ensures.1 k) in
+    put_differs log c.standing_at-n.result x h args.index place role clear c.if-n-eq0.false bytes other c.a-2.ensures c.fault.ensures

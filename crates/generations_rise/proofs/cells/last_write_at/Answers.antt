@@ -27,25 +27,23 @@ has_key-requires c = record_length _ _ c.record_at.ensures (omega arith)
 
 pub returns-then-has_key : goal.returns-then-has_key
 returns-then-has_key c =
-    let l = c in
-    let a = l.args in (
+    let a = c.args in (
       omega arith,
-      λ k. sym ((l.loop-i.invariant.1 k).same
-          ∙ last_hit (key_in a.place.now) a.log.now a.cap (omega arith) ((l.loop-i.invariant.1 k).here (omega arith))
+      λ k. sym ((c.loop-i.invariant.1 k).same
+          ∙ last_hit (key_in a.place.now) a.log.now a.cap (omega arith) ((c.loop-i.invariant.1 k).here (omega arith))
           (read_at (starts_with (key_in a.place.now)) _ _ c.record_at.ensures c.has_key.ensures ∙ c.if-has_key.true)),
     )
 
 pub loop-i-preserved : goal.loop-i-preserved
 loop-i-preserved c =
-    let l = c in
-    let a = l.args in (
+    let a = c.args in (
       omega (arith, c.link-i-in-loop-i.ensures.0),
       λ k. stands_next (λ n. last_write_at (key_in a.place.now) (hist a.log.now n)) (last_skip (key_in a.place.now) a.log.now a.cap) k.keys
           (omega arith)
           (omega arith)
-          ((l.loop-i.invariant.1 k).here (omega arith))
-          ((l.loop-i.invariant.1 k).same
-          ∙ last_miss (key_in a.place.now) a.log.now a.cap (omega arith) ((l.loop-i.invariant.1 k).here (omega arith))
+          ((c.loop-i.invariant.1 k).here (omega arith))
+          ((c.loop-i.invariant.1 k).same
+          ∙ last_miss (key_in a.place.now) a.log.now a.cap (omega arith) ((c.loop-i.invariant.1 k).here (omega arith))
           (read_at (starts_with (key_in a.place.now)) _ _ c.record_at.ensures c.has_key.ensures
           ∙ c.if-has_key.false))
           (omega arith)

@@ -19,44 +19,36 @@ returns-then-n-eq0 c =
 
 pub record_at-requires : goal.record_at-requires
 record_at-requires c =
-    let n = c in
-    omega (arith, n.last_write_at-n.ensures.0, n.requires.0.log-holds)
+    omega (arith, c.last_write_at-n.ensures.0, c.requires.0.log_holds)
 
 pub a-by-requires : goal.a-by-requires
 a-by-requires c =
-    let n = c in
-    record_length _ _ c.record_at.ensures (omega (arith, n.last_write_at-n.ensures.0, n.requires.0.log-holds))
+    record_length _ _ c.record_at.ensures (omega (arith, c.last_write_at-n.ensures.0, c.requires.0.log_holds))
 
 pub returns-then-is_against : goal.returns-then-is_against
 returns-then-is_against c =
-    let w = c in
-    let n = w in
-    let s = n in
-    let a = s.args in
+    let a = c.args in
     λ k p. rise_fault_lem (decode a.rec.now) a.generation a.log.now a.count p
-    (n.last_write_at-n.ensures.1 k ∙ ap (λ (v : Key). last_write_at v (hist a.log.now a.count)) n.start_of.ensures)
-    w.if-n-eq0.false
-    w.a-range.ensures
+    (c.last_write_at-n.ensures.1 k ∙ ap (λ (v : Key). last_write_at v (hist a.log.now a.count)) c.start_of.ensures)
+    c.if-n-eq0.false
+    c.a-range.ensures
     c.b.ensures
-    (read_at (λ (x : TraceRecord). x.a) _ _ w.record_at.ensures w.a-by.ensures)
-    (w.written_at-last.ensures a.log.now a.count (omega (arith, n.last_write_at-n.ensures.0, w.if-n-eq0.false))
-    s.requires.0.within
+    (read_at (λ (x : TraceRecord). x.a) _ _ c.record_at.ensures c.a-by.ensures)
+    (c.written_at-last.ensures a.log.now a.count (omega (arith, c.last_write_at-n.ensures.0, c.if-n-eq0.false))
+    c.requires.0.within
     k)
     (sym c.is_against.ensures ∙ c.if-is_against.true)
     c.fault_of.ensures
 
 pub returns : goal.returns
 returns c =
-    let w = c in
-    let n = w in
-    let s = n in
-    let a = s.args in
+    let a = c.args in
     λ k p. rise_clear (decode a.rec.now) a.generation a.log.now a.count p
-    (n.last_write_at-n.ensures.1 k ∙ ap (λ (v : Key). last_write_at v (hist a.log.now a.count)) n.start_of.ensures)
-    w.if-n-eq0.false
-    w.a-range.ensures
-    (read_at (λ (x : TraceRecord). x.a) _ _ w.record_at.ensures w.a-by.ensures)
-    (w.written_at-last.ensures a.log.now a.count (omega (arith, n.last_write_at-n.ensures.0, w.if-n-eq0.false))
-    s.requires.0.within
+    (c.last_write_at-n.ensures.1 k ∙ ap (λ (v : Key). last_write_at v (hist a.log.now a.count)) c.start_of.ensures)
+    c.if-n-eq0.false
+    c.a-range.ensures
+    (read_at (λ (x : TraceRecord). x.a) _ _ c.record_at.ensures c.a-by.ensures)
+    (c.written_at-last.ensures a.log.now a.count (omega (arith, c.last_write_at-n.ensures.0, c.if-n-eq0.false))
+    c.requires.0.within
     k)
     (sym c.is_against.ensures ∙ c.if-is_against.false)

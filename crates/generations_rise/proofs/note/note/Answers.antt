@@ -5,6 +5,5 @@ use Rattle.generations_rise.proofs.note.note.Goals as goal
 
 pub returns : goal.returns
 returns c =
-    let w = c in
-    let a = w.args in
-    taken _ _ w.counts_as-w.ensures.kind w.counts_as-w.ensures.told (c.note_as.ensures _ (hist_length a.log.now a.count))
+    let a = c.args in
+    taken _ _ c.counts_as-w.ensures.kind c.counts_as-w.ensures.told (c.note_as.ensures _ (hist_length a.log.now a.count))

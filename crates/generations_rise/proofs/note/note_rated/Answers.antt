@@ -6,10 +6,8 @@ use Rattle.generations_rise.proofs.note.note_rated.Goals as goal
 
 pub returns : goal.returns
 returns c =
-    let k = c in
-    let e = k in
-    λ h n. noted_rated h _ e.requires.1.0 n e.enter_write.ensures
-    (k.bucket_by_key.ensures.0 ∙ ap (bucket_by_key _) k.start_of.ensures)
-    k.bucket_by_key.ensures.1
+    λ h n. noted_rated h _ c.requires.1.0 n c.enter_write.ensures
+    (c.bucket_by_key.ensures.0 ∙ ap (bucket_by_key _) c.start_of.ensures)
+    c.bucket_by_key.ensures.1
     c.enter.ensures
     c.put.ensures

@@ -16,22 +16,20 @@ returns-then-not-is_write c =
 
 pub returns-then-is_counted : goal.returns-then-is_counted
 returns-then-is_counted c =
-    let l = c in
-    let e = sym l.is_write.ensures ∙ l.if-not-is_write.false in
+    let e = sym c.is_write.ensures ∙ c.if-not-is_write.false in
     record {
       kind = λ z. refl;
-      told = (λ k j. as_known _ _ c.a-range.ensures c.b-index.ensures e (c.is_counted.ensures k) c.if-is_counted.true, );
+      told = λ k j. as_known _ _ c.a-range.ensures c.b-index.ensures e (c.is_counted.ensures k) c.if-is_counted.true;
     }
 
 pub returns : goal.returns
 returns c =
-    let l = c in
-    let e = sym l.is_write.ensures ∙ l.if-not-is_write.false in
+    let e = sym c.is_write.ensures ∙ c.if-not-is_write.false in
     record {
-      kind = λ z. never e (not_apply (decode l.args.rec.now) z);
-      told = (λ k j. as_found _ _ _ c.a-range.ensures c.b-index.ensures e
+      kind = λ z. never e (not_apply (decode c.args.rec.now) z);
+      told = λ k j. as_found _ _ _ c.a-range.ensures c.b-index.ensures e
           (c.is_counted.ensures k)
           c.if-is_counted.false
           (c.before-2.ensures j)
-          c.generation_of.ensures, );
+          c.generation_of.ensures;
     }

@@ -27,16 +27,15 @@ e-requires c = record_length _ _ c.record_at-rec.ensures (omega arith)
 
 pub loop-i-preserved : goal.loop-i-preserved
 loop-i-preserved c =
-    let l = c in
-    let a = l.args in
+    let a = c.args in
     let r = c.record_at-rec.ensures in (
       omega (arith, c.block_below-i-in-loop-i.ensures.0),
       λ k. block_stands a.log.now _ (blocks_skip a.log.now (weigh_all a.first a.last c.weighed-s.result))
-          (share_turn a.first a.last a.log.now l.loop-i.s (omega arith) ((l.loop-i.invariant.1 k).here (omega arith))
+          (share_turn a.first a.last a.log.now c.loop-i.s (omega arith) ((c.loop-i.invariant.1 k).here (omega arith))
           (read_at (λ (x : TraceRecord). x.d) _ _ r c.d.ensures)
           (read_at (λ (x : TraceRecord). x.e) _ _ r c.e.ensures)
           c.weighed-s.ensures
-          (l.loop-i.invariant.1 k).same)
+          (c.loop-i.invariant.1 k).same)
           (c.block_below-i-in-loop-i.ensures.1 a.log.now a.count (omega arith) (omega arith) k),
     )
 

@@ -8,31 +8,27 @@ use Rattle.ids_unique.proofs.check.first_case.Goals as goal
 
 pub returns-then-last-first : goal.returns-then-last-first
 returns-then-last-first c =
-    let l = c in
-    λ k. empty_case (grant_by (decode l.args.rec.now)) _ l.d-first.ensures
-    l.e-last.ensures
-    l.if-last-first.true
+    λ k. empty_case (grant_by (decode c.args.rec.now)) _ c.d-first.ensures
+    c.e-last.ensures
+    c.if-last-first.true
     c.b.ensures
     c.fault_of.ensures
 
 pub returns-then-greatest_last-first : goal.returns-then-greatest_last-first
 returns-then-greatest_last-first c =
-    let l = c in
-    let a = l.args in
-    λ k. apart_case (grant_by (decode a.rec.now)) _ l.d-first.ensures l.e-last.ensures l.if-last-first.false
+    let a = c.args in
+    λ k. apart_case (grant_by (decode a.rec.now)) _ c.d-first.ensures c.e-last.ensures c.if-last-first.false
     (c.greatest_last.ensures a.log.now a.count (omega arith) (omega arith) k)
     c.if-greatest_last-first.true
 
 pub returns-then-s : goal.returns-then-s
 returns-then-s c =
-    let l = c in
-    let g = grant_by (decode l.args.rec.now) in
+    let g = grant_by (decode c.args.rec.now) in
     λ k. shared_fault_lem g _ c.if-s.true c.b-then-s.ensures c.fault_of-then-s.ensures
-    ∙ walk_case g _ l.d-first.ensures l.e-last.ensures l.if-last-first.false (c.shared_with-s.ensures k)
+    ∙ walk_case g _ c.d-first.ensures c.e-last.ensures c.if-last-first.false (c.shared_with-s.ensures k)
 
 pub returns : goal.returns
 returns c =
-    let l = c in
-    let g = grant_by (decode l.args.rec.now) in
+    let g = grant_by (decode c.args.rec.now) in
     λ k. shared_clear g _ c.if-s.false
-    ∙ walk_case g _ l.d-first.ensures l.e-last.ensures l.if-last-first.false (c.shared_with-s.ensures k)
+    ∙ walk_case g _ c.d-first.ensures c.e-last.ensures c.if-last-first.false (c.shared_with-s.ensures k)

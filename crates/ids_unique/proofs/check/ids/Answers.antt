@@ -9,20 +9,18 @@ returns-then-kind-ne11 c = λ k j. no_grant_case _ _ c.kind.ensures c.if-kind-ne
 
 pub returns-then-n-eq0 : goal.returns-then-n-eq0
 returns-then-n-eq0 c =
-    let l = c in
-    λ k j. first_grant_case _ _ _ l.b.ensures (c.grant_at-n.ensures.1 k) l.kind.ensures l.if-kind-ne11.false
+    λ k j. first_grant_case _ _ _ c.b.ensures (c.grant_at-n.ensures.1 k) c.kind.ensures c.if-kind-ne11.false
     c.if-n-eq0.true
     (c.first_case.ensures j)
 
 pub again_case-requires : goal.again_case-requires
 again_case-requires c =
     let p = c.requires in
-    (p.1, record_length _ _ c.record_at.ensures (omega (arith, c.grant_at-n.ensures.0, p.0.log-holds)))
+    (p.1, record_length _ _ c.record_at.ensures (omega (arith, c.grant_at-n.ensures.0, p.0.log_holds)))
 
 pub returns : goal.returns
 returns c =
-    let l = c in
-    λ k j. again_case _ _ _ l.b.ensures (c.grant_at-n.ensures.1 k) l.kind.ensures l.if-kind-ne11.false
+    λ k j. again_case _ _ _ c.b.ensures (c.grant_at-n.ensures.1 k) c.kind.ensures c.if-kind-ne11.false
     c.if-n-eq0.false
     c.record_at.ensures
     c.again_case.ensures

@@ -5,12 +5,11 @@ use Rattle.ids_unique.proofs.check.same_grant.Goals as goal
 pub returns : goal.returns
 unfolding grant_eqb
 returns c =
-    let h = c in
     rw (
-      h.a.ensures,
-      h.a-2.ensures,
-      h.c.ensures,
-      h.c-2.ensures,
+      c.a.ensures,
+      c.a-2.ensures,
+      c.c.ensures,
+      c.c-2.ensures,
       c.d.ensures,
       c.d-2.ensures,
       c.e.ensures,

@@ -13,16 +13,14 @@ returns-then-kind-ne11 c =
 
 pub returns-then-grant_at-eq0 : goal.returns-then-grant_at-eq0
 returns-then-grant_at-eq0 c =
-    let l = c in
     record {
-      kind = λ z. sym l.kind.ensures ∙ l.if-kind-ne11.false;
-      first = (λ k. first_yes _ _ _ c.b.ensures (c.grant_at.ensures.1 k) l.kind.ensures l.if-kind-ne11.false c.if-grant_at-eq0.true, );
+      kind = λ z. sym c.kind.ensures ∙ c.if-kind-ne11.false;
+      first = λ k. first_yes _ _ _ c.b.ensures (c.grant_at.ensures.1 k) c.kind.ensures c.if-kind-ne11.false c.if-grant_at-eq0.true;
     }
 
 pub returns : goal.returns
 returns c =
-    let l = c in
     record {
       kind = λ z. never z refl;
-      first = (λ k. first_no _ _ _ c.b.ensures (c.grant_at.ensures.1 k) l.kind.ensures l.if-kind-ne11.false c.if-grant_at-eq0.false, );
+      first = λ k. first_no _ _ _ c.b.ensures (c.grant_at.ensures.1 k) c.kind.ensures c.if-kind-ne11.false c.if-grant_at-eq0.false;
     }

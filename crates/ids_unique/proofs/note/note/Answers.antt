@@ -4,20 +4,13 @@ use Rattle.ids_unique.proofs.note.note.Goals as goal
 
 pub returns-then-first : goal.returns-then-first
 returns-then-first c =
-    let f = c in
-    let m = f in
-    let i = m in
-    let p = i in
-    noted_first _ _ p.requires.1.0 m.e.ensures m.is_full.ensures i.is_first-first.ensures.kind i.is_first-first.ensures.first
-    m.mark.ensures
-    f.if-first.true
+    noted_first _ _ c.requires.1.0 c.e.ensures c.is_full.ensures c.is_first-first.ensures.kind c.is_first-first.ensures.first
+    c.mark.ensures
+    c.if-first.true
     c.enter_grant.ensures
 
 pub returns-else-first : goal.returns-else-first
 returns-else-first c =
-    let m = c in
-    let i = m in
-    let p = i in
-    noted_other _ _ p.requires.1.0 m.e.ensures m.is_full.ensures i.is_first-first.ensures.kind i.is_first-first.ensures.first
-    m.mark.ensures
+    noted_other _ _ c.requires.1.0 c.e.ensures c.is_full.ensures c.is_first-first.ensures.kind c.is_first-first.ensures.first
+    c.mark.ensures
     c.if-first.false

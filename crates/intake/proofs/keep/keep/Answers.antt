@@ -9,6 +9,4 @@ append-requires c = let p = c.requires in (p.holds, p.size)
 
 pub returns : goal.returns
 returns c =
-    let a = c in
-    let n = a in
-    record { appended = a.append.ensures; noted = n.note.ensures }
+    record { appended = c.append.ensures; noted = c.note.ensures }

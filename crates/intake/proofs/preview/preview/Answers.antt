@@ -29,21 +29,15 @@ module _ (c : After-decide-decided) where
 
 pub returns-then-decided-ge-REFUSED : goal.returns-then-decided-ge-REFUSED
 returns-then-decided-ge-REFUSED c =
-    let d = c in
-    let a = (s d).args in
-    previews_off (o d) a.cap a.n a.events (log d) (work d) (rows d) (bytes d) d.decide-decided.ensures c.if-decided-ge-REFUSED.true
+    let a = (s c).args in
+    previews_off (o c) a.cap a.n a.events (log c) (work c) (rows c) (bytes c) c.decide-decided.ensures c.if-decided-ge-REFUSED.true
 
 pub judge-requires : goal.judge-requires
 judge-requires c =
-    let i = c in
-    let d = i in
-    let a = (s d).args in
-    judge_ready (o d) a.cap a.n a.events (log d) (work d) (rows d) (bytes d) d.decide-decided.ensures (omega (arith, i.if-decided-ge-REFUSED.false)) (s d).requires
+    let a = (s c).args in
+    judge_ready (o c) a.cap a.n a.events (log c) (work c) (rows c) (bytes c) c.decide-decided.ensures (omega (arith, c.if-decided-ge-REFUSED.false)) (s c).requires
 
 pub returns : goal.returns
 returns c =
-    let j = c in
-    let i = j in
-    let d = i in
-    let a = (s d).args in
-    previews_on (o d) a.cap a.n a.events (log d) (work d) (rows d) (bytes d) d.decide-decided.ensures (omega (arith, i.if-decided-ge-REFUSED.false)) j.judge.ensures
+    let a = (s c).args in
+    previews_on (o c) a.cap a.n a.events (log c) (work c) (rows c) (bytes c) c.decide-decided.ensures (omega (arith, c.if-decided-ge-REFUSED.false)) c.judge.ensures

@@ -28,21 +28,15 @@ module _ (c : After-preview-refusal) where
 
 pub returns-then-refusal-ne0 : goal.returns-then-refusal-ne0
 returns-then-refusal-ne0 c =
-    let p = c in
-    let a = (s p).args in
-    takes_off (o p) a.cap a.n a.events (log p) (work p) (rows p) (bytes p) p.preview-refusal.ensures c.if-refusal-ne0.true
+    let a = (s c).args in
+    takes_off (o c) a.cap a.n a.events (log c) (work c) (rows c) (bytes c) c.preview-refusal.ensures c.if-refusal-ne0.true
 
 pub keep-requires : goal.keep-requires
 keep-requires c =
-    let i = c in
-    let p = i in
-    let a = (s p).args in
-    keepable (o p) a.cap a.n a.events (log p) (work p) (rows p) (bytes p) p.preview-refusal.ensures i.if-refusal-ne0.false
+    let a = (s c).args in
+    keepable (o c) a.cap a.n a.events (log c) (work c) (rows c) (bytes c) c.preview-refusal.ensures c.if-refusal-ne0.false
 
 pub returns : goal.returns
 returns c =
-    let k = c in
-    let i = k in
-    let p = i in
-    let a = (s p).args in
-    takes_on (o p) a.cap a.n a.events (log p) (work p) (rows p) (bytes p) p.preview-refusal.ensures i.if-refusal-ne0.false k.keep.ensures
+    let a = (s c).args in
+    takes_on (o c) a.cap a.n a.events (log c) (work c) (rows c) (bytes c) c.preview-refusal.ensures c.if-refusal-ne0.false c.keep.ensures

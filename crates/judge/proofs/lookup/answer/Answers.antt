@@ -9,23 +9,20 @@ use Rattle.judge.proofs.lookup.answer.Goals as goal
 pub returns-in-Before : goal.returns-in-Before
 returns-in-Before c =
     let a = c.args in
-    let found = c in
-    valued_as found.in-Before.is a.out.now (λ h. refl)
-    (λ i. c.found_number.ensures ∙ ap found_number (found.before-in-Before.ensures i.descriptors))
+    valued_as c.in-Before.is a.out.now (λ h. refl)
+    (λ i. c.found_number.ensures ∙ ap found_number (c.before-in-Before.ensures i.descriptors))
 
 pub returns-in-At : goal.returns-in-At
 returns-in-At c =
     let a = c.args in
-    let found = c in
-    valued_as found.in-At.is a.out.now (λ h. refl)
-    (λ i. c.found_number-in-At.ensures ∙ ap found_number (found.at.ensures i.descriptors))
+    valued_as c.in-At.is a.out.now (λ h. refl)
+    (λ i. c.found_number-in-At.ensures ∙ ap found_number (c.at.ensures i.descriptors))
 
 pub returns-in-FirstAtGeneration : goal.returns-in-FirstAtGeneration
 returns-in-FirstAtGeneration c =
     let a = c.args in
-    let found = c in
-    valued_as found.in-FirstAtGeneration.is a.out.now (λ h. refl)
-    (λ i. c.found_number-in-FirstAtGeneration.ensures ∙ ap found_number (found.first_at_generation-first.ensures i.descriptors))
+    valued_as c.in-FirstAtGeneration.is a.out.now (λ h. refl)
+    (λ i. c.found_number-in-FirstAtGeneration.ensures ∙ ap found_number (c.first_at_generation-first.ensures i.descriptors))
 
 pub returns-in-Statements : goal.returns-in-Statements
 returns-in-Statements c =
@@ -36,9 +33,8 @@ returns-in-Statements c =
 pub returns-in-IsEmpty : goal.returns-in-IsEmpty
 returns-in-IsEmpty c =
     let a = c.args in
-    let told = c in
-    valued_as told.in-IsEmpty.is a.out.now (λ h. refl)
-    (λ i. c.truth.ensures ∙ ap truth (told.is_empty.ensures (hist a.log.now a.n) (hist_length a.log.now a.n) i.descriptors))
+    valued_as c.in-IsEmpty.is a.out.now (λ h. refl)
+    (λ i. c.truth.ensures ∙ ap truth (c.is_empty.ensures (hist a.log.now a.n) (hist_length a.log.now a.n) i.descriptors))
 
 pub returns-in-HoldersOf : goal.returns-in-HoldersOf
 returns-in-HoldersOf c =

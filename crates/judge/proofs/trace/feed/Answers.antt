@@ -91,8 +91,7 @@ loop-at-init c = (omega arith, omega arith, refl, refl, refl, λ f. f, λ f a t 
 
 pub preview-refusal-requires : goal.preview-refusal-requires
 preview-refusal-requires c =
-    let i = c in
-    i.loop-at.invariant.4 ∙ i.requires
+    c.loop-at.invariant.4 ∙ c.requires
 
 pub shape_of-log-then-refusal-ne0 : goal.shape_of-log-then-refusal-ne0
 shape_of-log-then-refusal-ne0 c = (l c).loop.inv.2
@@ -101,42 +100,38 @@ pub shape_of-work-then-refusal-ne0 : goal.shape_of-work-then-refusal-ne0
 shape_of-work-then-refusal-ne0 c = (l c).loop.inv.3
 
 pub shape_of-rows-then-refusal-ne0 : goal.shape_of-rows-then-refusal-ne0
-shape_of-rows-then-refusal-ne0 c = let p = c in p.preview-refusal.ensures.size ∙ (l p).loop.invariant.4
+shape_of-rows-then-refusal-ne0 c = c.preview-refusal.ensures.size ∙ (l c).loop.invariant.4
 
 pub returns-then-refusal-ne0 : goal.returns-then-refusal-ne0
 returns-then-refusal-ne0 c =
-    let p = c in
     record {
-      feeds = off p c.if-refusal-ne0.true;
-      size = p.preview-refusal.ensures.size ∙ (l p).loop.invariant.4;
-      fits = λ f. p.preview-refusal.ensures.fits ((l p).loop.invariant.5 f);
-      few = few p;
+      feeds = off c c.if-refusal-ne0.true;
+      size = c.preview-refusal.ensures.size ∙ (l c).loop.invariant.4;
+      fits = λ f. c.preview-refusal.ensures.fits ((l c).loop.invariant.5 f);
+      few = few c;
     }
 
 pub keep-requires : goal.keep-requires
-keep-requires c = let i = c in kept i i.if-refusal-ne0.false
+keep-requires c = kept c c.if-refusal-ne0.false
 
 pub event_after-events-requires : goal.event_after-events-requires
 event_after-events-requires c =
-    let i = c in
-    (kept i i.if-refusal-ne0.false).size
+    (kept c c.if-refusal-ne0.false).size
 
 pub loop-at-preserved : goal.loop-at-preserved
 loop-at-preserved c =
-    let k = c in
-    let p = k in
-    let i = (l p).loop.invariant in
-    let e = p.record_end-end.ensures in
+    let i = (l c).loop.invariant in
+    let e = c.record_end-end.ensures in
     let a = e.0 in
     let b = e.1 in
     let n = i.1 in (
       omega arith,
       omega arith,
-      k.keep.auto.0 ∙ i.2,
-      k.keep.auto.1.0 ∙ i.3,
-      p.preview-refusal.ensures.size ∙ i.4,
-      λ f. p.preview-refusal.ensures.fits (i.5 f),
-      on p k.if-refusal-ne0.false k.keep.ensures c.event_after-events.ensures,
+      c.keep.auto.log ∙ i.2,
+      c.keep.auto.work ∙ i.3,
+      c.preview-refusal.ensures.size ∙ i.4,
+      λ f. c.preview-refusal.ensures.fits (i.5 f),
+      on c c.if-refusal-ne0.false c.keep.ensures c.event_after-events.ensures,
     )
 
 pub returns : goal.returns

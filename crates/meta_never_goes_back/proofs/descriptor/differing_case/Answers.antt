@@ -16,13 +16,10 @@ same_named-requires c = (record_length _ _ c.record_at.ensures (omega arith), c.
 
 pub returns-then-same_named : goal.returns-then-same_named
 returns-then-same_named c =
-    let old = c in
-    let x = decode old.args.rec.now in
-    λ k e l. case_at x _ k old.record_at.ensures (omega arith) c.same_named.ensures.answer (rw c.if-same_named.true)
+    let x = decode c.args.rec.now in
+    λ k e l. case_at x _ k c.record_at.ensures (omega arith) c.same_named.ensures.answer (rw c.if-same_named.true)
 
 pub returns : goal.returns
 returns c =
-    let if3 = c in
-    let old = if3 in
-    let x = decode old.args.rec.now in
-    λ k e l. case_at x _ k old.record_at.ensures (omega arith) if3.same_named.ensures.answer (rw if3.if-same_named.false c.descriptor_fault.ensures)
+    let x = decode c.args.rec.now in
+    λ k e l. case_at x _ k c.record_at.ensures (omega arith) c.same_named.ensures.answer (rw c.if-same_named.false c.descriptor_fault.ensures)

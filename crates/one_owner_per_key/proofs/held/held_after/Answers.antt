@@ -27,8 +27,8 @@ returns-then-is_holding c =
     let k = c.hold_of-k in
     record {
       within = k.ensures.within;
-      held = (λ ix e. held_holds a.node.0 a.range a.log.now a.top (k.ensures.latest ix) e c.if-k-ended.false
-          (c.is_holding.ensures ∙ ap (λ (x : TraceRecord). is_holding x) (record_bytes _ _ c.record_at.ensures)) c.if-is_holding.true, );
+      held = λ ix e. held_holds a.node.0 a.range a.log.now a.top (k.ensures.latest ix) e c.if-k-ended.false
+          (c.is_holding.ensures ∙ ap (λ (x : TraceRecord). is_holding x) (record_bytes _ _ c.record_at.ensures)) c.if-is_holding.true;
     }
 
 pub returns-else-is_holding : goal.returns-else-is_holding
@@ -37,6 +37,6 @@ returns-else-is_holding c =
     let k = c.hold_of-k in
     record {
       within = omega arith;
-      held = (λ ix e. held_lacks a.node.0 a.range a.log.now a.top (k.ensures.latest ix) e c.if-k-ended.false
-          (c.is_holding.ensures ∙ ap (λ (x : TraceRecord). is_holding x) (record_bytes _ _ c.record_at.ensures)) c.if-is_holding.false, );
+      held = λ ix e. held_lacks a.node.0 a.range a.log.now a.top (k.ensures.latest ix) e c.if-k-ended.false
+          (c.is_holding.ensures ∙ ap (λ (x : TraceRecord). is_holding x) (record_bytes _ _ c.record_at.ensures)) c.if-is_holding.false;
     }

@@ -33,14 +33,14 @@ returns-then-i-top c =
     let a = c.args in
     record {
       within = leb-true l.i a.top (and_left (leb l.i a.top) c.says_hold.result c.if-i-top.true);
-      latest = (λ ix. walk_hit (by_hold_lem a.cap a.node.0 a.range) a.log.now a.top c.loop-i-test.true (l.invariant.1 ix)
+      latest = λ ix. walk_hit (by_hold_lem a.cap a.node.0 a.range) a.log.now a.top c.loop-i-test.true (l.invariant.1 ix)
           (c.says_hold.ensures ∙ ap (λ (x : TraceRecord). says_hold a.node.0 a.range x)
-          (record_bytes _ _ c.record_at.ensures)) c.if-i-top.true, );
+          (record_bytes _ _ c.record_at.ensures)) c.if-i-top.true;
     }
 
 pub hold_below-i-requires : goal.hold_below-i-requires
 hold_below-i-requires c = (
-  c.requires.0.work-holds,
+  c.requires.0.work_holds,
   (omega (arith, c.requires.0), c.requires.0.small),
 
 )

@@ -33,14 +33,14 @@ returns-then-i-top c =
     let a = c.args in
     record {
       within = leb-true l.i a.top (and_left (leb l.i a.top) c.is_by.result c.if-i-top.true);
-      latest = (λ ix. walk_hit (entered_by_node a.cap a.node.0) a.log.now a.top c.loop-i-test.true (l.invariant.1 ix)
+      latest = λ ix. walk_hit (entered_by_node a.cap a.node.0) a.log.now a.top c.loop-i-test.true (l.invariant.1 ix)
           (c.is_by.ensures ∙ ap (λ (x : TraceRecord). is_by a.node.0 x) (record_bytes _ _ c.record_at.ensures))
-          c.if-i-top.true, );
+          c.if-i-top.true;
     }
 
 pub node_below-i-requires : goal.node_below-i-requires
 node_below-i-requires c = (
-  c.requires.0.work-holds,
+  c.requires.0.work_holds,
   (omega (arith, c.requires.0), c.requires.0.small),
 
 )

@@ -10,8 +10,8 @@ returns-then-not-is_holding c =
     let a = c.args in
     record {
       within = omega arith;
-      newly = (λ ix e. newly_not a.node.0 (decode a.rec.now) (hist a.log.now a.count) c.is_holding.ensures
-          c.if-not-is_holding.true, );
+      newly = λ ix e. newly_not a.node.0 (decode a.rec.now) (hist a.log.now a.count) c.is_holding.ensures
+          c.if-not-is_holding.true;
     }
 
 pub returns-then-held_after-eq0 : goal.returns-then-held_after-eq0
@@ -19,9 +19,9 @@ returns-then-held_after-eq0 c =
     let a = c.args in
     record {
       within = omega arith;
-      newly = (λ ix e. newly_free a.node.0 (decode a.rec.now) (hist a.log.now a.count) c.is_holding.ensures
+      newly = λ ix e. newly_free a.node.0 (decode a.rec.now) (hist a.log.now a.count) c.is_holding.ensures
           c.if-not-is_holding.false
-          c.a.ensures (c.held_after.ensures.held ix e) c.if-held_after-eq0.true, );
+          c.a.ensures (c.held_after.ensures.held ix e) c.if-held_after-eq0.true;
     }
 
 pub returns-else-held_after-eq0 : goal.returns-else-held_after-eq0
@@ -29,7 +29,7 @@ returns-else-held_after-eq0 c =
     let a = c.args in
     record {
       within = omega arith;
-      newly = (λ ix e. newly_held a.node.0 (decode a.rec.now) (hist a.log.now a.count) c.is_holding.ensures
+      newly = λ ix e. newly_held a.node.0 (decode a.rec.now) (hist a.log.now a.count) c.is_holding.ensures
           c.if-not-is_holding.false
-          c.a.ensures (c.held_after.ensures.held ix e) c.if-held_after-eq0.false, );
+          c.a.ensures (c.held_after.ensures.held ix e) c.if-held_after-eq0.false;
     }

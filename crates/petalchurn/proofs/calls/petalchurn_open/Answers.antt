@@ -9,9 +9,6 @@ returns-then-state-ne-STATE_WORDS c =
 
 pub returns : goal.returns
 returns c =
-    let written = c in
-    let opened = written in
-    let asked = opened in
-    let a = asked.args in
-    open_done (record { tenant = a.tenant }) a.log.now a.work.now a.state.now opened.«open».result asked.if-state-ne-STATE_WORDS.false opened.«open».ensures
-    written.write_state.ensures c.number_of.ensures
+    let a = c.args in
+    open_done (record { tenant = a.tenant }) a.log.now a.work.now a.state.now c.«open».result c.if-state-ne-STATE_WORDS.false c.«open».ensures
+    c.write_state.ensures c.number_of.ensures

@@ -11,8 +11,7 @@ returns-then-not-is_state c =
 
 pub take_into-requires : goal.take_into-requires
 take_into-requires c =
-    let e = c in
-    sym e.is_state.ensures ∙ e.if-not-is_state.false
+    sym c.is_state.ensures ∙ c.if-not-is_state.false
 
 pub returns : goal.returns
 returns c = c.take_into.ensures

@@ -42,14 +42,12 @@ slice_bounds-take-end c = let e = (facts c).size in omega (arith, e)
 
 pub take-refusal-requires : goal.take-refusal-requires
 take-refusal-requires c =
-    let s = c in
-    part_size s.args.state.now (facts s).size
+    part_size c.args.state.now (facts c).size
 
 pub returns-then-refusal-ne0 : goal.returns-then-refusal-ne0
 returns-then-refusal-ne0 c =
-    let t = c in
-    let a = (asked t).args in
-    push_left a.state.now a.log.now a.work.now a.rec.now (asked t).requires t.take-refusal.ensures c.if-refusal-ne0.true
+    let a = (asked c).args in
+    push_left a.state.now a.log.now a.work.now a.rec.now (asked c).requires c.take-refusal.ensures c.if-refusal-ne0.true
 
 -- where nothing is refused
 module _ (c : Else-refusal-ne0) where
@@ -86,7 +84,6 @@ bounds-state-2-2 c = let e = left-size c in simp length-set (omega (arith, e))
 
 pub returns : goal.returns
 returns c =
-    let e = c in
-    let t = answered e in
-    let a = (given e).args in
-    push_done a.state.now a.log.now a.work.now a.rec.now (asked t).pre t.take.ensures e.if-refusal-ne0.false c.event_after.ensures
+    let t = answered c in
+    let a = (given c).args in
+    push_done a.state.now a.log.now a.work.now a.rec.now (asked t).pre t.take.ensures c.if-refusal-ne0.false c.event_after.ensures

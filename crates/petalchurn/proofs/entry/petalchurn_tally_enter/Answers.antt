@@ -6,9 +6,8 @@ use Rattle.petalchurn.proofs.entry.petalchurn_tally_enter.Goals as goal
 
 pub returns-then-not-is_state : goal.returns-then-not-is_state
 returns-then-not-is_state c =
-    let asked = c in
-    let a = asked.args in
-    let none = sym asked.is_state.ensures ∙ c.if-not-is_state.true in
+    let a = c.args in
+    let none = sym c.is_state.ensures ∙ c.if-not-is_state.true in
     tally_unfit a.state.now a.tally.now none
 
 pub read_state-judge-requires : goal.read_state-judge-requires
@@ -16,9 +15,6 @@ read_state-judge-requires c = state_facts _ (sym c.is_state.ensures ∙ c.if-not
 
 pub returns : goal.returns
 returns c =
-    let entered = c in
-    let read = entered in
-    let asked = read in
-    let a = asked.args in
-    let some = sym asked.is_state.ensures ∙ read.if-not-is_state.false in
-    tally_done a.state.now a.tally.now some read.read_state-judge.ensures entered.enter-entered.ensures c.number_of.ensures
+    let a = c.args in
+    let some = sym c.is_state.ensures ∙ c.if-not-is_state.false in
+    tally_done a.state.now a.tally.now some c.read_state-judge.ensures c.enter-entered.ensures c.number_of.ensures

@@ -6,9 +6,8 @@ use Rattle.petalchurn.proofs.lookups.looked.Goals as goal
 
 pub returns-then-not-is_state : goal.returns-then-not-is_state
 returns-then-not-is_state c =
-    let asked = c in
-    let a = asked.args in
-    let none = sym asked.is_state.ensures ∙ c.if-not-is_state.true in
+    let a = c.args in
+    let none = sym c.is_state.ensures ∙ c.if-not-is_state.true in
     looked_unfit a.question a.state.now a.log.now a.work.now a.out.now none c.answer_of.ensures
 
 pub read_state-judge-requires : goal.read_state-judge-requires
@@ -16,10 +15,7 @@ read_state-judge-requires c = state_facts _ (sym c.is_state.ensures ∙ c.if-not
 
 pub returns : goal.returns
 returns c =
-    let looked = c in
-    let read = looked in
-    let asked = read in
-    let a = asked.args in
-    let some = sym asked.is_state.ensures ∙ read.if-not-is_state.false in
-    looked_done a.question a.state.now a.log.now a.work.now a.out.now looked.look_up-given.result some read.read_state-judge.ensures
-    looked.look_up-given.ensures c.number_of.ensures refl c.answer_of-2.ensures
+    let a = c.args in
+    let some = sym c.is_state.ensures ∙ c.if-not-is_state.false in
+    looked_done a.question a.state.now a.log.now a.work.now a.out.now c.look_up-given.result some c.read_state-judge.ensures
+    c.look_up-given.ensures c.number_of.ensures refl c.answer_of-2.ensures

@@ -3,4 +3,4 @@ use Rattle.petalchurn.proofs.AnswerLaws.{looked_empty}
 use Rattle.petalchurn.proofs.lookups.looked_bare.Goals as goal
 
 pub returns : goal.returns
-returns c = looked_empty c.looked.ensures c.looked.auto.1.1.1.1.0
+returns c = looked_empty c.looked.ensures c.looked.auto.out

@@ -36,21 +36,16 @@ bounds-state-1 c = let e = (facts c).size in omega (arith, e)
 pub returns-then-not-suits : goal.returns-then-not-suits
 unfolding judge_in
 returns-then-not-suits c =
-    let u = c in
-    let e = u in
-    let a = (s e).args in
-    commit_unsuited a.state.now a.log.now a.work.now a.ticket.now (some e)
-    (sym u.suits.ensures ∙ c.if-not-suits.true)
+    let a = (s c).args in
+    commit_unsuited a.state.now a.log.now a.work.now a.ticket.now (some c)
+    (sym c.suits.ensures ∙ c.if-not-suits.true)
 
 pub returns-then-not-is_current : goal.returns-then-not-is_current
 unfolding judge_in
 returns-then-not-is_current c =
-    let i = c in
-    let u = i in
-    let e = u in
-    let a = (s e).args in
-    commit_stale a.state.now a.log.now a.work.now a.ticket.now (some e)
-    (sym u.suits.ensures ∙ i.if-not-suits.false)
+    let a = (s c).args in
+    commit_stale a.state.now a.log.now a.work.now a.ticket.now (some c)
+    (sym c.suits.ensures ∙ c.if-not-suits.false)
     (sym c.is_current.ensures ∙ c.if-not-is_current.true)
 
 -- where the ticket's count is the judge's
@@ -63,14 +58,12 @@ module _ (c : Else-not-is_current) where
 
 pub slice_bounds-take_into-count : goal.slice_bounds-take_into-count
 slice_bounds-take_into-count c =
-    let e = c in
-    let l = current_has (s (at e)).args.ticket.now _ (sym e.is_current.ensures ∙ current e) in
+    let l = current_has (s (at c)).args.ticket.now _ (sym c.is_current.ensures ∙ current c) in
     omega (arith, l)
 
 pub slice_bounds-take_into-start : goal.slice_bounds-take_into-start
 slice_bounds-take_into-start c =
-    let e = c in
-    let l = current_has (s (at e)).args.ticket.now _ (sym e.is_current.ensures ∙ current e) in
+    let l = current_has (s (at c)).args.ticket.now _ (sym c.is_current.ensures ∙ current c) in
     omega (arith, l)
 
 pub take_into-requires : goal.take_into-requires
@@ -78,8 +71,6 @@ take_into-requires c = some (at c)
 
 pub returns : goal.returns
 returns c =
-    let p = c in
-    let e = p in
-    let a = (s (at e)).args in
-    commit_done a.state.now a.log.now a.work.now a.ticket.now (some (at e))
-    (sym e.is_current.ensures ∙ current e) p.take_into.ensures
+    let a = (s (at c)).args in
+    commit_done a.state.now a.log.now a.work.now a.ticket.now (some (at c))
+    (sym c.is_current.ensures ∙ current c) c.take_into.ensures

@@ -35,72 +35,52 @@ returns-then-reports-ticket c =
 
 pub slice_bounds-clear-end : goal.slice_bounds-clear-end
 slice_bounds-clear-end c =
-    let e = c in
-    let l = room_rows (s e).args.reports.now (s e).args.ticket.now (has_room e) in
+    let l = room_rows (s c).args.reports.now (s c).args.ticket.now (has_room c) in
     omega (arith, l)
 
 pub clear_ticket-requires : goal.clear_ticket-requires
 clear_ticket-requires c =
-    let e = c in
-    room_ticket (s e).args.reports.now (s e).args.ticket.now (has_room e)
+    room_ticket (s c).args.reports.now (s c).args.ticket.now (has_room c)
 
 pub returns-then-not-is_state : goal.returns-then-not-is_state
 returns-then-not-is_state c =
-    let t = c in
-    let z = t in
-    let i = z in
-    let e = i in
-    let a = (s e).args in
-    let none : is_state a.state.now ≡ false = sym i.is_state.ensures ∙ i.if-not-is_state.true in
-    preview_unfit a.state.now a.log.now a.work.now a.rec.now a.reports.now a.ticket.now (has_room e) none
-    (front_passes a.reports.now (room_rows a.reports.now a.ticket.now (has_room e)) z.clear.ensures)
-    t.clear_ticket.ensures
+    let a = (s c).args in
+    let none : is_state a.state.now ≡ false = sym c.is_state.ensures ∙ c.if-not-is_state.true in
+    preview_unfit a.state.now a.log.now a.work.now a.rec.now a.reports.now a.ticket.now (has_room c) none
+    (front_passes a.reports.now (room_rows a.reports.now a.ticket.now (has_room c)) c.clear.ensures)
+    c.clear_ticket.ensures
 
 pub show-refusal-requires : goal.show-refusal-requires
 show-refusal-requires c =
-    let e = c in
-    let a = (s (at e)).args in
-    (state_facts a.state.now (some e), room_rows a.reports.now a.ticket.now (has_room (at e)))
+    let a = (s (at c)).args in
+    (state_facts a.state.now (some c), room_rows a.reports.now a.ticket.now (has_room (at c)))
 
 pub clear_ticket-requires-then-refusal-ne0 : goal.clear_ticket-requires-then-refusal-ne0
 clear_ticket-requires-then-refusal-ne0 c =
-    let e = c in
-    room_ticket (s (at e)).args.reports.now (s (at e)).args.ticket.now (has_room (at e))
+    room_ticket (s (at c)).args.reports.now (s (at c)).args.ticket.now (has_room (at c))
 
 pub returns-then-refusal-ne0 : goal.returns-then-refusal-ne0
 returns-then-refusal-ne0 c =
-    let t = c in
-    let i = t in
-    let p = i in
-    let e = p in
-    let a = (s (at e)).args in
-    preview_refused a.state.now a.log.now a.work.now a.rec.now a.reports.now a.ticket.now (has_room (at e)) (some e)
-    p.show-refusal.ensures i.if-refusal-ne0.true t.clear_ticket-then-refusal-ne0.ensures
+    let a = (s (at c)).args in
+    preview_refused a.state.now a.log.now a.work.now a.rec.now a.reports.now a.ticket.now (has_room (at c)) (some c)
+    c.show-refusal.ensures c.if-refusal-ne0.true c.clear_ticket-then-refusal-ne0.ensures
 
 pub bounds-state-1 : goal.bounds-state-1
 bounds-state-1 c =
-    let e = c in
-    let n = (state_facts (s (at e)).args.state.now (some e)).size in
+    let n = (state_facts (s (at c)).args.state.now (some c)).size in
     omega (arith, n)
 
 pub write_ticket-requires : goal.write_ticket-requires
 write_ticket-requires c =
-    let i = c in
-    let p = i in
-    let e = p in
-    let a = (s (at e)).args in (
-      room_ticket a.reports.now a.ticket.now (has_room (at e)),
-      preview_size a.state.now a.log.now a.work.now a.rec.now a.reports.now a.ticket.now (has_room (at e)) (some e)
-          p.show-refusal.ensures i.if-refusal-ne0.false,
+    let a = (s (at c)).args in (
+      room_ticket a.reports.now a.ticket.now (has_room (at c)),
+      preview_size a.state.now a.log.now a.work.now a.rec.now a.reports.now a.ticket.now (has_room (at c)) (some c)
+          c.show-refusal.ensures c.if-refusal-ne0.false,
     )
 
 pub returns : goal.returns
 unfolding judge_in
 returns c =
-    let t = c in
-    let i = t in
-    let p = i in
-    let e = p in
-    let a = (s (at e)).args in
-    preview_taken a.state.now a.log.now a.work.now a.rec.now a.reports.now a.ticket.now (has_room (at e)) (some e)
-    p.show-refusal.ensures i.if-refusal-ne0.false t.write_ticket.ensures
+    let a = (s (at c)).args in
+    preview_taken a.state.now a.log.now a.work.now a.rec.now a.reports.now a.ticket.now (has_room (at c)) (some c)
+    c.show-refusal.ensures c.if-refusal-ne0.false c.write_ticket.ensures

@@ -13,16 +13,12 @@ module _ (c : After-preview-refusal) where
 
 pub returns-then-refusal-eq5 : goal.returns-then-refusal-eq5
 returns-then-refusal-eq5 c =
-    let z = c in
-    let i = z in
-    let p = i in
-    let a = (s p).args in
-    show_unfit a.state.now a.log.now a.work.now a.rec.now a.reports.now (s p).requires.0.size (copied p).copy-rows.ensures
-    p.preview-refusal.ensures i.if-refusal-eq5.true z.clear.ensures
+    let a = (s c).args in
+    show_unfit a.state.now a.log.now a.work.now a.rec.now a.reports.now (s c).requires.0.size (copied c).copy-rows.ensures
+    c.preview-refusal.ensures c.if-refusal-eq5.true c.clear.ensures
 
 pub returns : goal.returns
 returns c =
-    let p = c in
-    let a = (s p).args in
-    show_done a.state.now a.log.now a.work.now a.rec.now a.reports.now (s p).requires.0.size (copied p).copy-rows.ensures
-    p.preview-refusal.ensures c.if-refusal-eq5.false
+    let a = (s c).args in
+    show_done a.state.now a.log.now a.work.now a.rec.now a.reports.now (s c).requires.0.size (copied c).copy-rows.ensures
+    c.preview-refusal.ensures c.if-refusal-eq5.false

@@ -9,9 +9,6 @@ returns-then-out-lt-TRACE_WORDS c =
 
 pub returns : goal.returns
 returns c =
-    let written = c in
-    let traced = written in
-    let asked = traced in
-    let a = asked.args in
-    trace_done (record { tenant = a.tenant }) a.log.now a.work.now a.trace.now a.out.now traced.judge_trace-traced.result asked.if-out-lt-TRACE_WORDS.false
-    traced.judge_trace-traced.ensures written.write_trace.ensures.0 written.write_trace.ensures.1
+    let a = c.args in
+    trace_done (record { tenant = a.tenant }) a.log.now a.work.now a.trace.now a.out.now c.judge_trace-traced.result c.if-out-lt-TRACE_WORDS.false
+    c.judge_trace-traced.ensures c.write_trace.ensures.0 c.write_trace.ensures.1

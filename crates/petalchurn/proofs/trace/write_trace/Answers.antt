@@ -12,15 +12,11 @@ pub bounds-out-1 : goal.bounds-out-1
 bounds-out-1 c = simp length-set (omega arith)
 
 pub shape_of-out : goal.shape_of-out
-shape_of-out c = c.write_rows.auto.0 ∙ simp length-set
+shape_of-out c = c.write_rows.auto.out ∙ simp length-set
 
 pub returns : goal.returns
 returns c =
-    let written = c in
-    let at = written in
-    let numbered = at in
-    let start = numbered in
-    let w = written.write_rows.ensures in
-    let n = numbered.number_of-refusal.ensures in
-    let refused = at.refused_at.ensures ∙ ap (λ (k : ℕ). cond (eqb k 0) 0 start.args.traced.at) n in
-    (n, w.is ∙ trace_written start.args.out.now start.args.traced start.requires w.many refl refused)
+    let w = c.write_rows.ensures in
+    let n = c.number_of-refusal.ensures in
+    let refused = c.refused_at.ensures ∙ ap (λ (k : ℕ). cond (eqb k 0) 0 c.args.traced.at) n in
+    (n, w.is ∙ trace_written c.args.out.now c.args.traced c.requires w.many refl refused)

@@ -17,7 +17,7 @@ pub b-index-requires : goal.b-index-requires
 b-index-requires c = c.requires.1
 
 pub right_of-right-requires : goal.right_of-right-requires
-right_of-right-requires c = (c.requires.0.log-holds, c.requires.1)
+right_of-right-requires c = (c.requires.0.log_holds, c.requires.1)
 
 pub lowest_lacking-lowest-requires : goal.lowest_lacking-lowest-requires
 lowest_lacking-lowest-requires c = c.requires

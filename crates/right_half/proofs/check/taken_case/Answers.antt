@@ -10,7 +10,7 @@ use Rattle.right_half.proofs.check.taken_case.Goals as goal
 
 pub right_of-right-requires : goal.right_of-right-requires
 right_of-right-requires c = (
-  c.requires.0.log-holds,
+  c.requires.0.log_holds,
   record_length c.args.log.now
       (c.args.k - 1) c.record_at-found.ensures
       (omega (arith, c.requires.0, c.requires.1.1)),

@@ -15,7 +15,7 @@ use Rattle.right_half.proofs.Lacks.{owed_first, owed_here, owed_next, owed_end}
 use Rattle.right_half.proofs.lacking.is_owed.Goals as goal
 
 pub registering_by-i-requires : goal.registering_by-i-requires
-registering_by-i-requires c = (c.requires.work-holds, (c.requires.within, c.requires.small))
+registering_by-i-requires c = (c.requires.work_holds, (c.requires.within, c.requires.small))
 
 pub loop-i-init : goal.loop-i-init
 loop-i-init c =
@@ -34,14 +34,14 @@ record_at-requires c = omega (arith, c.requires)
 
 pub named_by-requires : goal.named_by-requires
 named_by-requires c = (
-  c.requires.work-holds,
+  c.requires.work_holds,
   (omega (arith, c.requires, c.loop-i.invariant.0), c.requires.small),
 
 )
 
 pub right_of-requires : goal.right_of-requires
 right_of-requires c = (
-  c.requires.log-holds,
+  c.requires.log_holds,
   record_length
       c.args.log.now (c.loop-i.i - 1)
       c.record_at.ensures
@@ -78,7 +78,7 @@ returns-then-owes_by c =
 
 pub registering_by-i-requires-in-loop-i : goal.registering_by-i-requires-in-loop-i
 registering_by-i-requires-in-loop-i c = (
-  c.requires.work-holds,
+  c.requires.work_holds,
   (omega (arith, c.requires, c.loop-i.invariant.0), c.requires.small),
 
 )

@@ -18,7 +18,7 @@ latest_of-last-requires c = (c.requires.0, omega arith)
 
 pub restated_by-restated-requires : goal.restated_by-restated-requires
 restated_by-restated-requires c = (
-  c.requires.0.work-holds,
+  c.requires.0.work_holds,
   (omega (arith, c.requires.0, c.latest_of-last.ensures.within), c.requires.0.small),
 
 )
@@ -36,7 +36,7 @@ returns-then-restated-eq0 c =
 
 pub refused_by-refused-requires : goal.refused_by-refused-requires
 refused_by-refused-requires c = (
-  c.requires.0.work-holds,
+  c.requires.0.work_holds,
   (omega (arith, c.requires.0, c.latest_of-last.ensures.within), c.requires.0.small),
 
 )
@@ -85,7 +85,7 @@ returns-then-was_held c =
 
 pub server_by-requires : goal.server_by-requires
 server_by-requires c = (
-  c.requires.0.work-holds,
+  c.requires.0.work_holds,
   (omega (arith, c.latest_of-last.ensures.within, c.requires.0), c.requires.0.small),
 
 )

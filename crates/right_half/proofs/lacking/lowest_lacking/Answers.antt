@@ -43,7 +43,7 @@ lowered_by-best-requires c = (
 
 pub recorded_below-i-requires : goal.recorded_below-i-requires
 recorded_below-i-requires c = (
-  c.requires.0.work-holds,
+  c.requires.0.work_holds,
   (omega (arith, c.requires.0, c.loop-i.invariant.0), c.requires.0.small),
 
 )

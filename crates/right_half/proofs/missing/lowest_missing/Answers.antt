@@ -19,7 +19,7 @@ latest_of-last-requires c = (c.requires, omega arith)
 
 pub end_by-ended-requires : goal.end_by-ended-requires
 end_by-ended-requires c = (
-  c.requires.work-holds,
+  c.requires.work_holds,
   (
     omega
         (arith, c.requires.within, c.latest_of-last.ensures.within),
@@ -30,14 +30,14 @@ end_by-ended-requires c = (
 
 pub refused_by-refused-requires : goal.refused_by-refused-requires
 refused_by-refused-requires c = (
-  c.requires.work-holds,
+  c.requires.work_holds,
   (omega (arith, c.requires, c.latest_of-last.ensures.within), c.requires.small),
 
 )
 
 pub registering_by-i-requires : goal.registering_by-i-requires
 registering_by-i-requires c = (
-  c.requires.work-holds,
+  c.requires.work_holds,
   (c.requires.within, c.requires.small),
 
 )
@@ -59,14 +59,14 @@ record_at-requires c = omega (arith, c.requires)
 
 pub named_by-requires : goal.named_by-requires
 named_by-requires c = (
-  c.requires.work-holds,
+  c.requires.work_holds,
   (omega (arith, c.requires, c.loop-i.invariant.0), c.requires.small),
 
 )
 
 pub right_of-right-requires : goal.right_of-right-requires
 right_of-right-requires c = (
-  c.requires.log-holds,
+  c.requires.log_holds,
   record_length
       c.args.log.now (c.loop-i.i - 1)
       c.record_at.ensures
@@ -84,7 +84,7 @@ lowered-best-requires c = (
 
 pub registering_by-i-requires-in-loop-i : goal.registering_by-i-requires-in-loop-i
 registering_by-i-requires-in-loop-i c = (
-  c.requires.work-holds,
+  c.requires.work_holds,
   (omega (arith, c.requires, c.loop-i.invariant.0), c.requires.small),
 
 )

@@ -14,15 +14,11 @@ shape_of-out-in-Pass c = appended_length c.append_pass.ensures
 
 pub returns-in-Pass : goal.returns-in-Pass
 returns-in-Pass c =
-    let c1 = c in
-    let c2 = c1 in
-    rw (line_pass _ _ _ _ c2.in-Pass.is) c1.append_pass.ensures
+    rw (line_pass _ _ _ _ c.in-Pass.is) c.append_pass.ensures
 
 pub shape_of-out-in-Faulted : goal.shape_of-out-in-Faulted
 shape_of-out-in-Faulted c = appended_length c.append_fault.ensures
 
 pub returns-in-Faulted : goal.returns-in-Faulted
 returns-in-Faulted c =
-    let c1 = c in
-    let c2 = c1 in
-    rw (line_fault _ _ _ _ _ c2.in-Faulted.is) c1.append_fault.ensures
+    rw (line_fault _ _ _ _ _ c.in-Faulted.is) c.append_fault.ensures

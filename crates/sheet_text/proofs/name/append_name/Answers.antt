@@ -14,9 +14,8 @@ shape_of-out-then-byte-eq32 c = appended_length c.loop-i.invariant.1
 pub returns-then-byte-eq32 : goal.returns-then-byte-eq32
 unfolding all_names padded
 returns-then-byte-eq32 c =
-    let a = c in
     let l = c.loop-i in
-    name_ended a.args.check l.i a.requires.1 c.loop-i-test.true c.if-byte-eq32.true l.invariant.1
+    name_ended c.args.check l.i c.requires.1 c.loop-i-test.true c.if-byte-eq32.true l.invariant.1
 
 pub bounds-out-at : goal.bounds-out-at
 bounds-out-at c = omega (arith, c.requires, appended_length c.loop-i.invariant.1)
@@ -24,12 +23,11 @@ bounds-out-at c = omega (arith, c.requires, appended_length c.loop-i.invariant.1
 pub loop-i-preserved : goal.loop-i-preserved
 unfolding all_names padded
 loop-i-preserved c =
-    let a = c in
     let l = c.loop-i in
-    (omega arith, name_more a.args.check l.i a.requires.1 c.loop-i-test.true c.if-byte-eq32.false l.invariant.1)
+    (omega arith, name_more c.args.check l.i c.requires.1 c.loop-i-test.true c.if-byte-eq32.false l.invariant.1)
 
 pub overflow_add-result-2 : goal.overflow_add-result-2
-overflow_add-result-2 c = omega (arith, c.requires, c.well_formed)
+overflow_add-result-2 c = omega (arith, c.requires, c.well-formed)
 
 pub shape_of-out : goal.shape_of-out
 shape_of-out c = appended_length c.loop-i.invariant.1

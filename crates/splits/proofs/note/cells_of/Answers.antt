@@ -31,7 +31,7 @@ returns-in_default c =
 
 pub registered_with-requires-2 : goal.registered_with-requires-2
 registered_with-requires-2 c = (
-  c.requires.0.work-holds,
+  c.requires.0.work_holds,
   (
     c.requires.0.small,
     (c.requires.1.0, c.registers-named.ensures.within),
@@ -41,7 +41,7 @@ registered_with-requires-2 c = (
 
 pub records_with-requires : goal.records_with-requires
 records_with-requires c = (
-  c.requires.0.work-holds,
+  c.requires.0.work_holds,
   (omega (arith, c.latest_of-last.ensures.within, c.requires.0), (c.requires.0.small, c.requires.1.1)),
 
 )

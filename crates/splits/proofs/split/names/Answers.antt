@@ -24,10 +24,10 @@ returns-then-k-eq0 c =
     let a = c.args in
     record {
       within = omega arith;
-      names = (λ ix node e. names_none a.log.now (decode a.rec.now) a.count node c.is_created.ensures
+      names = λ ix node e. names_none a.log.now (decode a.rec.now) a.count node c.is_created.ensures
           c.if-is_created.false
           (pendingly_is a.log.now node c.requires.0.within (omega arith) e ix.1.pendings
-          c.pending_by-k.ensures.1) c.if-k-eq0.true, );
+          c.pending_by-k.ensures.1) c.if-k-eq0.true;
     }
 
 pub record_at-requires : goal.record_at-requires
@@ -47,12 +47,12 @@ returns-then-uses_up c =
     let a = c.args in
     record {
       within = omega (arith, c.pending_by-k.ensures.0);
-      names = (λ ix node e. names_used a.log.now (decode a.rec.now) a.count node c.is_created.ensures
+      names = λ ix node e. names_used a.log.now (decode a.rec.now) a.count node c.is_created.ensures
           c.if-is_created.false
           (pendingly_is a.log.now node c.requires.0.within
           (omega arith) e ix.1.pendings c.pending_by-k.ensures.1) c.if-k-eq0.false
           (c.uses_up.ensures ∙ ap (λ (y : TraceRecord). uses_up (decode a.rec.now) (pending_by y))
-          (record_bytes a.log.now _ c.record_at.ensures)) c.if-uses_up.true, );
+          (record_bytes a.log.now _ c.record_at.ensures)) c.if-uses_up.true;
     }
 
 pub returns-else-uses_up : goal.returns-else-uses_up
@@ -60,10 +60,10 @@ returns-else-uses_up c =
     let a = c.args in
     record {
       within = omega arith;
-      names = (λ ix node e. names_other a.log.now (decode a.rec.now) a.count node
+      names = λ ix node e. names_other a.log.now (decode a.rec.now) a.count node
           c.is_created.ensures c.if-is_created.false
           (pendingly_is a.log.now node c.requires.0.within
           (omega arith) e ix.1.pendings c.pending_by-k.ensures.1) c.if-k-eq0.false
           (c.uses_up.ensures ∙ ap (λ (y : TraceRecord). uses_up (decode a.rec.now) (pending_by y))
-          (record_bytes a.log.now _ c.record_at.ensures)) c.if-uses_up.false, );
+          (record_bytes a.log.now _ c.record_at.ensures)) c.if-uses_up.false;
     }

@@ -20,9 +20,9 @@ returns-then-split_of-ne0 c =
     let a = c.args in
     record {
       within = omega arith;
-      names = (λ ix node m e. registers_known a.log.now (decode a.rec.now) a.count node m
+      names = λ ix node m e. registers_known a.log.now (decode a.rec.now) a.count node m
           (c.names-named.ensures.names ix node.0 e) c.if-named-eq0.false
-          (c.split_of.ensures.latest ix ∙ rw (c.parent_of.ensures, c.b.ensures)) c.if-split_of-ne0.true, );
+          (c.split_of.ensures.latest ix ∙ rw (c.parent_of.ensures, c.b.ensures)) c.if-split_of-ne0.true;
     }
 
 pub returns : goal.returns
@@ -30,7 +30,7 @@ returns c =
     let a = c.args in
     record {
       within = c.names-named.ensures.within;
-      names = (λ ix node m e. registers_new a.log.now (decode a.rec.now) a.count node m
+      names = λ ix node m e. registers_new a.log.now (decode a.rec.now) a.count node m
           (c.names-named.ensures.names ix node.0 e) c.if-named-eq0.false
-          (c.split_of.ensures.latest ix ∙ rw (c.parent_of.ensures, c.b.ensures)) c.if-split_of-ne0.false, );
+          (c.split_of.ensures.latest ix ∙ rw (c.parent_of.ensures, c.b.ensures)) c.if-split_of-ne0.false;
     }

@@ -36,18 +36,18 @@ returns-then-i-top c =
     let a = c.args in
     record {
       within = leb-true l.i a.top (and_left (leb l.i a.top) c.is_split.result c.if-i-top.true);
-      latest = (λ ix.
+      latest = λ ix.
           let w = l.invariant.1 ix in
           walk_hit (by_split_lem a.parent a.index a.cap) a.log.now a.top c.loop-i-test.true w
           (c.is_split.ensures ∙ ap (λ (y : TraceRecord). eqb (parent_by y) a.parent && eqb y.b a.index)
           (record_bytes a.log.now _ c.record_at.ensures)
           ∙ split_test a.parent a.index a.cap a.log.now (l.i - 1) (w.here c.loop-i-test.true))
-          c.if-i-top.true, );
+          c.if-i-top.true;
     }
 
 pub split_below-i-requires : goal.split_below-i-requires
 split_below-i-requires c = (
-  c.requires.0.work-holds,
+  c.requires.0.work_holds,
   (omega (arith, c.requires.0), c.requires.0.small),
 
 )

@@ -13,27 +13,22 @@ use Rattle.tally.proofs.raise.raise.Goals as goal
 pub raise_at-requires : goal.raise_at-requires
 unfolding room_to
 raise_at-requires c =
-    let checks = c in
-    let s = checks in
-    let a = s.args in
-    let bytes : Bytes a.tally.now = record { below = λ i. (s.type_inv.tally i).fits } in
-    let is = checks.raise_checks.ensures in
+    let a = c.args in
+    let bytes : Bytes a.tally.now = record { below = λ i. (c.type_inv.tally i).fits } in
+    let is = c.raise_checks.ensures in
     let step = traces_step a.places.now a.count a.tally.now bytes in
     let n = ap length is ∙ stored_length width _ tally_places in
-    (omega arith, raise_fits a.places.now a.count a.tally.now bytes s.requires.2 _ _ _ _ _ is step)
+    (omega arith, raise_fits a.places.now a.count a.tally.now bytes c.requires.2 _ _ _ _ _ is step)
 
 pub raise_at-requires-2 : goal.raise_at-requires-2
 unfolding room_to
 raise_at-requires-2 c =
-    let traces = c in
-    let checks = traces in
-    let s = checks in
-    let a = s.args in
-    let bytes : Bytes a.tally.now = record { below = λ i. (s.type_inv.tally i).fits } in
-    let room = s.requires.2 in
+    let a = c.args in
+    let bytes : Bytes a.tally.now = record { below = λ i. (c.type_inv.tally i).fits } in
+    let room = c.requires.2 in
     let first = traces_step a.places.now a.count a.tally.now bytes in
-    let is = traces.raise_at.ensures
-    ∙ raise_stored a.places.now a.count a.tally.now bytes room _ _ _ _ _ checks.raise_checks.ensures first in
+    let is = c.raise_at.ensures
+    ∙ raise_stored a.places.now a.count a.tally.now bytes room _ _ _ _ _ c.raise_checks.ensures first in
     let step = taken_step a.places.now a.count a.tally.now bytes in
     let n = ap length is ∙ stored_length width _ tally_places in
     (omega arith, raise_fits a.places.now a.count a.tally.now bytes room _ _ _ _ _ is step)
@@ -41,17 +36,13 @@ raise_at-requires-2 c =
 pub returns : goal.returns
 unfolding room_to
 returns c =
-    let taken = c in
-    let traces = taken in
-    let checks = traces in
-    let s = checks in
-    let a = s.args in
-    let bytes : Bytes a.tally.now = record { below = λ i. (s.type_inv.tally i).fits } in
-    let room = s.requires.2 in
+    let a = c.args in
+    let bytes : Bytes a.tally.now = record { below = λ i. (c.type_inv.tally i).fits } in
+    let room = c.requires.2 in
     let first = traces_step a.places.now a.count a.tally.now bytes in
     let second = taken_step a.places.now a.count a.tally.now bytes in
-    let is = traces.raise_at.ensures
-    ∙ raise_stored a.places.now a.count a.tally.now bytes room _ _ _ _ _ checks.raise_checks.ensures first in
-    taken.raise_at-2.ensures
+    let is = c.raise_at.ensures
+    ∙ raise_stored a.places.now a.count a.tally.now bytes room _ _ _ _ _ c.raise_checks.ensures first in
+    c.raise_at-2.ensures
     ∙ raise_stored a.places.now a.count a.tally.now bytes room _ _ _ _ _ is second
     ∙ raised_all a.places.now a.count a.tally.now bytes

@@ -31,12 +31,11 @@ overflow_add-k c =
 pub raise_at-requires : goal.raise_at-requires
 unfolding room_to
 raise_at-requires c =
-    let s = c in
-    let a = s.args in
-    let pre = s.requires in
+    let a = c.args in
+    let pre = c.requires in
     let l = c.loop-k in
     let taken : l.k < check_count = c.loop-k-test.true in
-    let bytes : Bytes a.tally.now = record { below = λ i. (s.type_inv.tally i).fits } in
+    let bytes : Bytes a.tally.now = record { below = λ i. (c.type_inv.tally i).fits } in
     let step = check_step a.places.now a.count a.tally.now bytes l.k taken pre.1 in
     let p = pre.1.each l.k taken in
     let n : length l.tally ≡ width * tally_places = ap length l.invariant.1 ∙ stored_length width _ tally_places in
@@ -45,12 +44,11 @@ raise_at-requires c =
 pub loop-k-preserved : goal.loop-k-preserved
 unfolding room_to
 loop-k-preserved c =
-    let s = c in
-    let a = s.args in
-    let pre = s.requires in
+    let a = c.args in
+    let pre = c.requires in
     let l = c.loop-k in
     let taken : l.k < check_count = c.loop-k-test.true in
-    let bytes : Bytes a.tally.now = record { below = λ i. (s.type_inv.tally i).fits } in
+    let bytes : Bytes a.tally.now = record { below = λ i. (c.type_inv.tally i).fits } in
     let step = check_step a.places.now a.count a.tally.now bytes l.k taken pre.1 in
     let next = raise_stored a.places.now a.count a.tally.now bytes pre.2 l.tally _ _ _ _ l.invariant.1 step in
     (omega arith, c.raise_at.ensures ∙ next)

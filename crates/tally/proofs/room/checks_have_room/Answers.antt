@@ -32,11 +32,10 @@ can_raise-room-requires c =
 
 pub loop-k-preserved : goal.loop-k-preserved
 loop-k-preserved c =
-    let a = c in
     let l = c.loop-k in
     let taken : l.k < check_count = c.loop-k-test.true in
-    let bytes : Bytes a.args.tally.now = record { below = λ i. (c.type_inv.tally i).fits } in
-    let more = room_more a.args.places.now a.args.count a.args.tally.now bytes l.k taken a.requires.1 in
+    let bytes : Bytes c.args.tally.now = record { below = λ i. (c.type_inv.tally i).fits } in
+    let more = room_more c.args.places.now c.args.count c.args.tally.now bytes l.k taken c.requires.1 in
     (omega arith, (λ n. l.invariant.1 n && c.can_raise-room.ensures n) ∙ sym more)
 
 pub returns : goal.returns

@@ -9,8 +9,7 @@ use Rattle.tally.proofs.room.has_room.Goals as goal
 pub returns : goal.returns
 unfolding room_to
 returns c =
-    let s = c in
-    let a = s.args in
-    let bytes : Bytes a.tally.now = record { below = λ i. (s.type_inv.tally i).fits } in
+    let a = c.args in
+    let bytes : Bytes a.tally.now = record { below = λ i. (c.type_inv.tally i).fits } in
     let all = room_totals a.places.now a.count a.tally.now bytes in
     (λ n. c.checks_have_room-checks.ensures n && c.can_raise-traces.ensures n && c.can_raise-taken.ensures n) ∙ sym all

@@ -8,9 +8,8 @@ use Rattle.judge.proofs.state.Judge.commit.Goals as goal
 
 pub returns-then-suiting-ticket : goal.returns-then-suiting-ticket
 returns-then-suiting-ticket c =
-    let u = c in
-    let a = u.args in
-    committed_stale a.self u.suits-suiting.result.judge a.log.now a.work.now a.ticket u.suits-suiting.ensures.0 u.suits-suiting.ensures.1
+    let a = c.args in
+    committed_stale a.self c.suits-suiting.result.judge a.log.now a.work.now a.ticket c.suits-suiting.ensures.0 c.suits-suiting.ensures.1
     c.if-suiting-ticket.true
 
 -- a ticket's record has its size, known from its type
@@ -22,9 +21,6 @@ slice_bounds-push-end c = sym (whole c)
 
 pub returns : goal.returns
 returns c =
-    let p = c in
-    let i = p in
-    let u = i in
-    let a = u.args in
-    committed_pushed a.self u.suits-suiting.result.judge a.log.now a.work.now a.ticket u.suits-suiting.ensures.0 u.suits-suiting.ensures.1
-    i.if-suiting-ticket.false p.push.ensures
+    let a = c.args in
+    committed_pushed a.self c.suits-suiting.result.judge a.log.now a.work.now a.ticket c.suits-suiting.ensures.0 c.suits-suiting.ensures.1
+    c.if-suiting-ticket.false c.push.ensures

@@ -30,7 +30,7 @@ returns c =
     let start = state_of (judge_by j.opening j.capacity 0 0 (replicate 56 0)) a.log.now a.work.now in
     let judge : List Report → Judge =
     λ rs. record { capacity = j.capacity; count = f.result.count; events = f.result.events; opening = j.opening; reports = rs } in
-    let left : List Report → State = λ rs. state_of (judge rs) f.new.0 f.new.1.0 in
+    let left : List Report → State = λ rs. state_of (judge rs) f.new.log f.new.work in
     let reports = c.read_rows-reports in
     subst (λ (n : ℕ). Feeds start trace 0 n f.result.at (left reports.result)) (sym c.refusal_of.ensures)
     (subst (λ (rs : List Report). Feeds start trace 0 f.result.refusal f.result.at (left rs)) (sym reports.ensures) f.ensures.feeds)

@@ -5,13 +5,10 @@ use Rattle.judge.proofs.state.Judge.judge_trace.Goals as goal
 
 pub returns-in-Nothing : goal.returns-in-Nothing
 returns-in-Nothing c =
-    let f = c in
-    let told = f in
-    let opened = told in
-    let a = opened.args in
-    let o = opened.«open» in
-    traced_on a.opening a.log.now a.work.now a.trace.now o.result o.ensures f.fed.result told.in-Nothing.is
-    f.fed.ensures
+    let a = c.args in
+    let o = c.«open» in
+    traced_on a.opening a.log.now a.work.now a.trace.now o.result o.ensures c.fed.result c.in-Nothing.is
+    c.fed.ensures
 
 pub returns-in_default : goal.returns-in_default
 returns-in_default c =

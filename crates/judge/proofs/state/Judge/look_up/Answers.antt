@@ -6,50 +6,38 @@ use Rattle.judge.proofs.state.Judge.look_up.Goals as goal
 
 pub returns-then-not-suiting : goal.returns-then-not-suiting
 returns-then-not-suiting c =
-    let tested = c in
-    let suited = tested in
-    let a = suited.args in
-    let u = suited.suits-suiting in
-    let e = lends_by a.self a.log.now a.work.now u.ensures.0 u.ensures.1 (not-true u.result.holds tested.if-not-suiting.true) in
+    let a = c.args in
+    let u = c.suits-suiting in
+    let e = lends_by a.self a.log.now a.work.now u.ensures.0 u.ensures.1 (not-true u.result.holds c.if-not-suiting.true) in
     looked_as u.ensures.1 (looked_refused a.question u.result.judge a.log.now a.work.now a.out.now e c.of_none.ensures)
 
 pub returns-then-cap-eq0 : goal.returns-then-cap-eq0
 returns-then-cap-eq0 c =
-    let tested = c in
-    let suited = tested in
-    let a = suited.args in
-    let u = suited.suits-suiting in
-    let e = lends_by a.self a.log.now a.work.now u.ensures.0 u.ensures.1 (not-false u.result.holds tested.if-not-suiting.false) in
+    let a = c.args in
+    let u = c.suits-suiting in
+    let e = lends_by a.self a.log.now a.work.now u.ensures.0 u.ensures.1 (not-false u.result.holds c.if-not-suiting.false) in
     looked_as u.ensures.1
     (looked_none a.question u.result.judge a.log.now a.work.now a.out.now e c.if-cap-eq0.true c.of_none-then-cap-eq0.ensures)
 
 pub answer-found-requires : goal.answer-found-requires
 answer-found-requires c =
-    let tested = c in
-    let suited = tested in
-    let a = suited.args in
-    let u = suited.suits-suiting in
-    let e = lends_by a.self a.log.now a.work.now u.ensures.0 u.ensures.1 (not-false u.result.holds tested.if-not-suiting.false) in
+    let a = c.args in
+    let u = c.suits-suiting in
+    let e = lends_by a.self a.log.now a.work.now u.ensures.0 u.ensures.1 (not-false u.result.holds c.if-not-suiting.false) in
     bounded (suiting e) c.if-cap-eq0.false
 
 pub returns-in-TooShort : goal.returns-in-TooShort
 returns-in-TooShort c =
-    let answered = c in
-    let tested = answered in
-    let suited = tested in
-    let a = suited.args in
-    let u = suited.suits-suiting in
-    let e = lends_by a.self a.log.now a.work.now u.ensures.0 u.ensures.1 (not-false u.result.holds tested.if-not-suiting.false) in
+    let a = c.args in
+    let u = c.suits-suiting in
+    let e = lends_by a.self a.log.now a.work.now u.ensures.0 u.ensures.1 (not-false u.result.holds c.if-not-suiting.false) in
     looked_as u.ensures.1
-    (looked_short a.question u.result.judge a.log.now a.work.now a.out.now e answered.answer-found.ensures c.in-TooShort.is)
+    (looked_short a.question u.result.judge a.log.now a.work.now a.out.now e c.answer-found.ensures c.in-TooShort.is)
 
 pub returns-in-All : goal.returns-in-All
 returns-in-All c =
-    let answered = c in
-    let tested = answered in
-    let suited = tested in
-    let a = suited.args in
-    let u = suited.suits-suiting in
-    let e = lends_by a.self a.log.now a.work.now u.ensures.0 u.ensures.1 (not-false u.result.holds tested.if-not-suiting.false) in
+    let a = c.args in
+    let u = c.suits-suiting in
+    let e = lends_by a.self a.log.now a.work.now u.ensures.0 u.ensures.1 (not-false u.result.holds c.if-not-suiting.false) in
     looked_as u.ensures.1
-    (looked_given a.question u.result.judge a.log.now a.work.now a.out.now e answered.answer-found.ensures c.in-All.is)
+    (looked_given a.question u.result.judge a.log.now a.work.now a.out.now e c.answer-found.ensures c.in-All.is)

@@ -39,37 +39,33 @@ refusal_of-requires c = few c
 
 pub returns-then-refusal-ne0 : goal.returns-then-refusal-ne0
 returns-then-refusal-ne0 c =
-    let p = c in
-    let a = (s p).args in
+    let a = (s c).args in
     let z = c.if-refusal-ne0.true in
-    let none = ticket_refused a.self a.log.now a.work.now (rows p) a.rec.now (are p) p.preview-refusal.ensures z in
+    let none = ticket_refused a.self a.log.now a.work.now (rows c) a.rec.now (are c) c.preview-refusal.ensures z in
     record {
       judge = refl;
-      shows = shown_refused a.self a.log.now a.work.now (rows p) a.rec.now (are p) p.preview-refusal.ensures
+      shows = shown_refused a.self a.log.now a.work.now (rows c) a.rec.now (are c) c.preview-refusal.ensures
           c.refusal_of.ensures (c.no_ticket.ensures ∙ none) z c.refused_reports.ensures;
     }
 
 pub read_rows-shown-requires : goal.read_rows-shown-requires
 read_rows-shown-requires c =
-    let p = c in
-    let n = size p in
-    (omega arith, p.preview-refusal.ensures.fits (written_fit (s p).args.self (w p).write-rows.ensures))
+    let n = size c in
+    (omega arith, c.preview-refusal.ensures.fits (written_fit (s c).args.self (w c).write-rows.ensures))
 
 pub ticket_of-requires : goal.ticket_of-requires
 ticket_of-requires c =
-    let p = c in
-    let a = (s p).args in
+    let a = (s c).args in
     (room_of {cap = a.self.capacity} {count = a.self.count} {log = a.log.now} {work = a.work.now} {bytes = a.rec.now}
-    (sym p.preview-refusal.ensures.refusal ∙ c.if-refusal-ne0.false)).size
+    (sym c.preview-refusal.ensures.refusal ∙ c.if-refusal-ne0.false)).size
 
 pub returns : goal.returns
 returns c =
-    let p = c in
-    let a = (s p).args in
+    let a = (s c).args in
     let z = c.if-refusal-ne0.false in
-    let some = ticket_would a.self a.log.now a.work.now (rows p) a.rec.now (are p) p.preview-refusal.ensures z in
+    let some = ticket_would a.self a.log.now a.work.now (rows c) a.rec.now (are c) c.preview-refusal.ensures z in
     record {
       judge = refl;
-      shows = shown_would a.self a.log.now a.work.now (rows p) a.rec.now (are p) p.preview-refusal.ensures
+      shows = shown_would a.self a.log.now a.work.now (rows c) a.rec.now (are c) c.preview-refusal.ensures
           (sym z) (c.ticket_of.ensures ∙ some) z c.read_rows-shown.ensures;
     }

@@ -55,46 +55,41 @@ refusal_of-requires c = few c
 
 pub returns-then-refusal-ne0 : goal.returns-then-refusal-ne0
 returns-then-refusal-ne0 c =
-    let t = c in
-    let a = (s t).args in
-    let e = t.take-refusal.ensures in
+    let a = (s c).args in
+    let e = c.take-refusal.ensures in
     record {
-      refusal = c.refusal_of.ensures ∙ push_number a.self a.log.now a.work.now (rows t) a.rec.now (are t) e;
-      leaves = push_refused a.self a.log.now a.work.now (rows t) a.rec.now (are t) e c.if-refusal-ne0.true;
+      refusal = c.refusal_of.ensures ∙ push_number a.self a.log.now a.work.now (rows c) a.rec.now (are c) e;
+      leaves = push_refused a.self a.log.now a.work.now (rows c) a.rec.now (are c) e c.if-refusal-ne0.true;
     }
 
 pub read_rows-next-requires : goal.read_rows-next-requires
 read_rows-next-requires c =
-    let t = c in
-    let n = size t in
-    (omega arith, t.take-refusal.ensures.fits (written_fit (s t).args.self (w t).write-rows.ensures))
+    let n = size c in
+    (omega arith, c.take-refusal.ensures.fits (written_fit (s c).args.self (w c).write-rows.ensures))
 
 pub overflow_add-result : goal.overflow_add-result
 overflow_add-result c =
-    let t = c in
-    let a = (s t).args in
-    let r = room t c.if-refusal-ne0.false in
+    let a = (s c).args in
+    let r = room c c.if-refusal-ne0.false in
     next_fits a.self.count a.self.capacity r.room r.suits.small
 
 pub event_after-requires : goal.event_after-requires
 event_after-requires c =
-    let t = c in
-    (room t c.if-refusal-ne0.false).size
+    (room c c.if-refusal-ne0.false).size
 
 pub returns : goal.returns
 returns c =
-    let t = c in
-    let a = (s t).args in
-    let e = t.take-refusal.ensures in
+    let a = (s c).args in
+    let e = c.take-refusal.ensures in
     let z = c.if-refusal-ne0.false in
     let given = state_of a.self a.log.now a.work.now in
-    let q = push_taken a.self a.log.now a.work.now (rows t) a.rec.now (are t) e z in
+    let q = push_taken a.self a.log.now a.work.now (rows c) a.rec.now (are c) e z in
     let judge : ℕ → List Report → Judge =
     λ n rs. record { capacity = a.self.capacity; count = a.self.count + 1; events = n; opening = a.self.opening; reports = rs } in
-    let left : ℕ → List Report → State = λ n rs. state_of (judge n rs) t.take-refusal.new.0 t.take-refusal.new.1.0 in
+    let left : ℕ → List Report → State = λ n rs. state_of (judge n rs) c.take-refusal.new.log c.take-refusal.new.work in
     let read = c.read_rows-next in
     record {
-      refusal = sym z ∙ push_number a.self a.log.now a.work.now (rows t) a.rec.now (are t) e;
+      refusal = sym z ∙ push_number a.self a.log.now a.work.now (rows c) a.rec.now (are c) e;
       leaves = subst (λ (n : ℕ). Pushed Indexed given a.rec.now (left n read.result)) (sym c.event_after.ensures)
           (subst (λ (rs : List Report). Pushed Indexed given a.rec.now (left (event_in a.self.events (decode a.rec.now)) rs))
           (sym read.ensures) q);
