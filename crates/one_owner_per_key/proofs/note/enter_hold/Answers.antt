@@ -1,5 +1,4 @@
 -- A record that is not chained leaves the area as it is.
-use borrow.Author.Tests.{not-false}
 use Rattle.one_owner_per_key.proofs.note.enter_hold.Goals as goal
 
 pub returns-then-not-is_chained : goal.returns-then-not-is_chained
@@ -9,9 +8,7 @@ pub returns : goal.returns
 returns c =
     rw (
       ← c.is_chained.ensures,
-      not-false
-          c.is_chained.result
-          c.if-not-is_chained.false,
+      c.if-not-is_chained.false,
       ← c.a.ensures,
       ← c.hold_bucket.ensures.0,
     )
