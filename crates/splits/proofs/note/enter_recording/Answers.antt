@@ -1,7 +1,6 @@
 -- A record that records nothing leaves the area as it is.
 use Rattle.record.proofs.Booleans.{never}
 use mathlib.Core.Path.{refl}
-use borrow.Author.Tests.{not-false}
 use Rattle.splits.proofs.note.enter_recording.Goals as goal
 
 pub returns-then-not-records : goal.returns-then-not-records
@@ -13,6 +12,5 @@ returns c =
       entered =
           λ e. rw (← c.a.ensures, ← c.recorded_bucket.ensures.0) c.enter.ensures;
       left =
-          λ e. never (not-false c.args.records
-          c.if-not-records.false) e;
+          λ e. never c.if-not-records.false e;
     }

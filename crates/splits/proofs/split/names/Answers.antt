@@ -11,13 +11,12 @@ use Rattle.splits.proofs.split.names.Goals as goal
 
 pub returns-then-is_created : goal.returns-then-is_created
 returns-then-is_created c =
-    let whole = ((
-  omega arith,
-  λ ix node e. names_itself c.args.log.now
+    record {
+      within = omega arith;
+      names = λ ix node e. names_itself c.args.log.now
       (decode c.args.rec.now) c.args.count node
-      c.is_created.ensures c.if-is_created.true,) in record { within = whole.0; names = whole.1 }
-
-)
+      c.is_created.ensures c.if-is_created.true;
+    }
 
 pub returns-then-k-eq0 : goal.returns-then-k-eq0
 returns-then-k-eq0 c =

@@ -7,13 +7,12 @@ use Rattle.splits.proofs.split.registers.Goals as goal
 
 pub returns-then-named-eq0 : goal.returns-then-named-eq0
 returns-then-named-eq0 c =
-    let whole = ((
-  omega arith,
-  λ ix node m e. registers_none c.args.log.now
+    record {
+      within = omega arith;
+      names = λ ix node m e. registers_none c.args.log.now
       (decode c.args.rec.now) c.args.count node m
-      (c.names-named.ensures.names ix node.0 e) c.if-named-eq0.true,) in record { within = whole.0; names = whole.1 }
-
-)
+      (c.names-named.ensures.names ix node.0 e) c.if-named-eq0.true;
+    }
 
 pub returns-then-split_of-ne0 : goal.returns-then-split_of-ne0
 returns-then-split_of-ne0 c =
