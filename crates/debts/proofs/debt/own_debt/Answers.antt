@@ -67,8 +67,7 @@ returns-then-kind-is_restated c =
     let y = record_bytes a.log.now a.at c.record_at-rec.ensures in
     let b =
     sym (c.is_by.ensures ∙ ap (λ (z : TraceRecord). is_by a.node.0 z) y)
-    ∙ not-false c.is_by.result
-    c.if-not-is_by.false in
+    ∙ c.if-not-is_by.false in
     let t =
     applies_test (record_at a.log.now a.at) (c.kind.ensures ∙ ap (λ (z : TraceRecord). z.kind) y)
     (c.has_taken.ensures ∙ ap (λ (z : TraceRecord). has_effect Took z) y)
@@ -87,8 +86,7 @@ returns c =
     let y = record_bytes a.log.now a.at c.record_at-rec.ensures in
     let b =
     sym (c.is_by.ensures ∙ ap (λ (z : TraceRecord). is_by a.node.0 z) y)
-    ∙ not-false c.is_by.result
-    c.if-not-is_by.false in
+    ∙ c.if-not-is_by.false in
     let t =
     applies_test (record_at a.log.now a.at) (c.kind.ensures ∙ ap (λ (z : TraceRecord). z.kind) y)
     (c.has_taken.ensures ∙ ap (λ (z : TraceRecord). has_effect Took z) y) c.if-kind-has_taken.false in

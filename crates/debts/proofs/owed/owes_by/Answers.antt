@@ -10,6 +10,7 @@ use Rattle.one_owner_per_key.specs.Numbers.{latest_number}
 use Rattle.splits.specs.Splits.{parent_by}
 use Rattle.debts.specs.Walk.{above, comes, owes_first}
 use Rattle.debts.proofs.Comings.{floor_is, owes_coming, owes_cancelled, owes_at_first}
+use Rattle.debts.proofs.owed.owes_by.Goals.{then-cancel-t, else-cancel-t}
 use Rattle.debts.proofs.owed.owes_by.Goals as goal
 
 pub record_at-split-requires : goal.record_at-split-requires
@@ -40,7 +41,7 @@ returns-then-latest_coming-ne0 c =
     let f = c.if-cancel-t.floor in
     let y = c.record_at-split.result.now in
     λ ix. owes_coming a.log.now a.count a.node.0 a.t a.cancel
-    (floor_is _ _ _ (⊎_elim (λ w. inl (w.0.taken, w.1)) (λ w. inr (w.0.left, w.1)) c.if-cancel-t.branch)) (c.latest_coming.ensures ix
+    (floor_is _ _ _ (elim c.if-cancel-t.branch [ then-cancel-t w ↦ inl (w.if-cancel-t.true, w.floor-is) | else-cancel-t w ↦ inr (w.if-cancel-t.false, w.floor-is) ])) (c.latest_coming.ensures ix
     ∙ ap (λ (m : ℕ). above f (latest_number (comes a.node.0 m c.b-index.result (decode y).voters)
     (hist a.log.now a.count))) c.parent_of-parent.ensures
     ∙ ap (λ (m : ℕ). above f (latest_number (comes a.node.0 (parent_by (decode y)) m (decode y).voters) (hist a.log.now a.count)))
@@ -54,7 +55,7 @@ returns-then-t-cancel c =
     let f = c.if-cancel-t.floor in
     let y = c.record_at-split.result.now in
     λ ix. owes_cancelled a.log.now a.count a.node.0 a.t a.cancel
-    (floor_is _ _ _ (⊎_elim (λ w. inl (w.0.taken, w.1)) (λ w. inr (w.0.left, w.1)) c.if-cancel-t.branch))
+    (floor_is _ _ _ (elim c.if-cancel-t.branch [ then-cancel-t w ↦ inl (w.if-cancel-t.true, w.floor-is) | else-cancel-t w ↦ inr (w.if-cancel-t.false, w.floor-is) ]))
     (c.latest_coming.ensures ix
     ∙ ap (λ (m : ℕ). above f (latest_number (comes a.node.0 m c.b-index.result (decode y).voters)
     (hist a.log.now a.count))) c.parent_of-parent.ensures
@@ -83,7 +84,7 @@ returns c =
     let f = c.if-cancel-t.floor in
     let y = c.record_at-split.result.now in
     λ ix. owes_at_first a.log.now a.count a.node.0 a.t a.cancel
-    (floor_is _ _ _ (⊎_elim (λ w. inl (w.0.taken, w.1)) (λ w. inr (w.0.left, w.1)) c.if-cancel-t.branch))
+    (floor_is _ _ _ (elim c.if-cancel-t.branch [ then-cancel-t w ↦ inl (w.if-cancel-t.true, w.floor-is) | else-cancel-t w ↦ inr (w.if-cancel-t.false, w.floor-is) ]))
     (c.latest_coming.ensures ix
     ∙ ap (λ (m : ℕ). above f (latest_number (comes a.node.0 m c.b-index.result (decode y).voters)
     (hist a.log.now a.count))) c.parent_of-parent.ensures

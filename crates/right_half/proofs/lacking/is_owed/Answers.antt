@@ -12,6 +12,7 @@ use Rattle.debts.specs.Walk.{owes_split}
 use Rattle.splits.proofs.Noting.{registering_read, named_read}
 use Rattle.splits.proofs.Registered.{named_range, range_of}
 use Rattle.right_half.proofs.Lacks.{owed_first, owed_here, owed_next, owed_end}
+use Rattle.right_half.proofs.lacking.is_owed.Goals.{then-right_of-right+else-owes_by, else-right_of-right}
 use Rattle.right_half.proofs.lacking.is_owed.Goals as goal
 
 pub registering_by-i-requires : goal.registering_by-i-requires
@@ -103,10 +104,10 @@ loop-i-preserved c =
           (named_range a.log.now (record_at a.log.now (l.i - 1)) (l.i - 1) (w.here c.loop-i-test.true)
           (ap (λ (z : TraceRecord). is_kind 1 z) (sym y) ∙ k)))
           ∙ ap (λ (z : TraceRecord). right_by a.log.now z c.named_by.result) y)
-          (λ q. ⊎_elim
-          (λ u. ap (owes_split a.log.now a.count a.node.0 (l.i - 1))
-          (sym (c.cancel_of-cancel.ensures ix e)) ∙ sym (u.1.ensures ix) ∙ u.2.left)
-          (λ u. absurd (u.left q)) c.if-right_of-right.branch)
+          (λ q. elim c.if-right_of-right.branch [
+            then-right_of-right+else-owes_by w ↦ ap (owes_split a.log.now a.count a.node.0 (l.i - 1)) (sym (c.cancel_of-cancel.ensures ix e))
+                ∙ sym (w.owes_by.ensures ix) ∙ w.if-owes_by.false
+          | else-right_of-right w ↦ absurd (w.if-right_of-right.false q) ])
           (c.registering_by-i-in-loop-i.ensures.1 ∙ registering_read a.log.now ix.1.registered p.within p.small (l.i - 1) (omega (arith, l.invariant.0))),
     )
 
