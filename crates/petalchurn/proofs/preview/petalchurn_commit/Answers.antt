@@ -2,24 +2,11 @@
 use mathlib.Core.Path.{◌≡◌, sym, ◌∙◌}
 use mathlib.Core.Bool.{true}
 use native.Mathlib.Omega.{arith}
-use borrow.Author.Tests.{not-false}
 use Rattle.state_words.specs.StateWords.{is_state, IsState, judge_in}
 use Rattle.state_words.proofs.States.{state_facts}
 use Rattle.ticket_bytes.proofs.TicketBytes.{current_has}
 use Rattle.petalchurn.proofs.PreviewLaws.{commit_unfit, commit_unsuited, commit_stale, commit_done}
-use Rattle.petalchurn.proofs.preview.petalchurn_commit.Goals.{Else-not-is_current, Else-not-is_state, Start}
 use Rattle.petalchurn.proofs.preview.petalchurn_commit.Goals as goal
-
--- where the words are a state
-module _ (c : Else-not-is_state) where
-  abbrev s : Start
-  s = c
-
-  some : is_state s.args.state.now ≡ true
-  some = sym c.is_state.ensures ∙ not-false c.is_state.result c.if1.false
-
-  facts : IsState s.args.state.now
-  facts = state_facts s.args.state.now some
 
 pub returns-then-not-is_state : goal.returns-then-not-is_state
 returns-then-not-is_state c =
@@ -28,49 +15,42 @@ returns-then-not-is_state c =
     commit_unfit a.state.now a.log.now a.work.now a.ticket.now none
 
 pub bounds-state-0 : goal.bounds-state-0
-bounds-state-0 c = let e = (facts c).size in omega (arith, e)
+bounds-state-0 c = let e = (state_facts c.args.state.now (sym c.is_state.ensures ∙ c.if-not-is_state.false)).size in omega (arith, e)
 
 pub bounds-state-1 : goal.bounds-state-1
-bounds-state-1 c = let e = (facts c).size in omega (arith, e)
+bounds-state-1 c = let e = (state_facts c.args.state.now (sym c.is_state.ensures ∙ c.if-not-is_state.false)).size in omega (arith, e)
 
 pub returns-then-not-suits : goal.returns-then-not-suits
 unfolding judge_in
 returns-then-not-suits c =
-    let a = (s c).args in
-    commit_unsuited a.state.now a.log.now a.work.now a.ticket.now (some c)
+    let a = c.args in
+    commit_unsuited a.state.now a.log.now a.work.now a.ticket.now (sym c.is_state.ensures ∙ c.if-not-is_state.false)
     (sym c.suits.ensures ∙ c.if-not-suits.true)
 
 pub returns-then-not-is_current : goal.returns-then-not-is_current
 unfolding judge_in
-returns-then-not-is_current c =
-    let a = (s c).args in
-    commit_stale a.state.now a.log.now a.work.now a.ticket.now (some c)
+returns-then-not-is_c.if-not-is_current.false =
+    let a = c.args in
+    commit_stale a.state.now a.log.now a.work.now a.ticket.now (sym c.is_state.ensures ∙ c.if-not-is_state.false)
     (sym c.suits.ensures ∙ c.if-not-suits.false)
     (sym c.is_current.ensures ∙ c.if-not-is_current.true)
 
--- where the ticket's count is the judge's
-module _ (c : Else-not-is_current) where
-  abbrev at : Else-not-is_state
-  at = c
-
-  current : c.is-current.result ≡ true
-  current = not-false c.is-current.result c.if3.false
-
+-- below, the ticket's count is the judge's
 pub slice_bounds-take_into-count : goal.slice_bounds-take_into-count
 slice_bounds-take_into-count c =
-    let l = current_has (s (at c)).args.ticket.now _ (sym c.is_current.ensures ∙ current c) in
+    let l = current_has c.args.ticket.now _ (sym c.is_current.ensures ∙ c.if-not-is_current.false) in
     omega (arith, l)
 
 pub slice_bounds-take_into-start : goal.slice_bounds-take_into-start
 slice_bounds-take_into-start c =
-    let l = current_has (s (at c)).args.ticket.now _ (sym c.is_current.ensures ∙ current c) in
+    let l = current_has c.args.ticket.now _ (sym c.is_current.ensures ∙ c.if-not-is_current.false) in
     omega (arith, l)
 
 pub take_into-requires : goal.take_into-requires
-take_into-requires c = some (at c)
+take_into-requires c = sym c.is_state.ensures ∙ c.if-not-is_state.false
 
 pub returns : goal.returns
 returns c =
-    let a = (s (at c)).args in
-    commit_done a.state.now a.log.now a.work.now a.ticket.now (some (at c))
-    (sym c.is_current.ensures ∙ current c) c.take_into.ensures
+    let a = c.args in
+    commit_done a.state.now a.log.now a.work.now a.ticket.now (sym c.is_state.ensures ∙ c.if-not-is_state.false)
+    (sym c.is_current.ensures ∙ c.if-not-is_current.false) c.take_into.ensures

@@ -4,7 +4,6 @@ use Prim.Native.Nat.{ℕ, ◌+◌}
 use native.Mathlib.Omega.{arith}
 use Rattle.tally.proofs.Counts.{kinds_few}
 use Rattle.tally.proofs.Used.{used_check, used_totals}
-pub used-places-spec : {M : Type 1} → statement M
 use Rattle.tally.proofs.place.used_places.Goals as goal
 
 pub overflow_add-result : goal.overflow_add-result
@@ -17,5 +16,3 @@ returns-then-k-lt-CHECKS c =
 
 pub returns : goal.returns
 returns c = sym (used_totals c.args.k (omega arith))
-
-used-places-spec = tie.close (tie.spec kinds-of-requires add-result returns returns-2)
