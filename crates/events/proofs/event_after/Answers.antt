@@ -1,5 +1,5 @@
 -- `event_after`: a record that continues, and the greatest number, leave the number; else one more, which then fits.
-use mathlib.Core.Path.{◌≡◌, sym, ap, ◌∙◌}
+use mathlib.Core.Path.{sym, ap, ◌∙◌}
 use mathlib.Core.Bool.{Bool, cond, ◌||◌}
 use Prim.Native.Nat.{◌+◌}
 use native.Mathlib.Omega.{arith}

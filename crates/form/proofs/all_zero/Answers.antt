@@ -1,5 +1,4 @@
 -- The bits of the bytes passed are none exactly when those bytes are all zero.
-use Prim.Native.Nat.{◌-◌}
 use Rattle.form.proofs.Zeros.{seen_start, seen_turn, seen_end}
 use Rattle.form.proofs.all_zero.Goals as goal
 

@@ -1,5 +1,4 @@
 -- The keys before i are all padded exactly when the flag says so.
-use Prim.Native.Nat.{◌-◌}
 use Rattle.form.proofs.Zeros.{passed_start, passed_turn, passed_end}
 use borrow.Author.Rules.{rules}
 use Rattle.form.proofs.are_padded.Goals as goal

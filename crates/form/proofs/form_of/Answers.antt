@@ -1,8 +1,7 @@
 -- The tests go in the order of the refusals; a kind of the table has no more voters and spans than there is room for.
-use mathlib.Core.Path.{◌≡◌, sym, ◌∙◌}
+use mathlib.Core.Path.{sym, ◌∙◌}
 use lib.ListN.{get_or}
-use Rattle.form.specs.declared.kind.Shaped.TheVariants.{Known, Unknown}
-use Rattle.form.specs.KindTable.{shape_of}
+use Rattle.form.specs.declared.kind.Shaped.TheVariants.{Unknown}
 use Rattle.form.proofs.Shapes.{roomy_kind}
 use Rattle.form.proofs.Sound.{wrong_size, by_shape, counted}
 use Rattle.form.proofs.form_of.Goals as goal

@@ -1,6 +1,6 @@
 -- A length byte above 31 leaves no padding; else the bits of the padding passed are none exactly when it is all zero.
 use mathlib.Core.Path.{sym}
-use Prim.Native.Nat.{◌≤◌, ◌<◌, ◌-◌}
+use Prim.Native.Nat.{◌≤◌, ◌<◌}
 use native.Mathlib.Omega.{arith}
 use lib.ListN.{get_or}
 use Rattle.form.proofs.Zeros.{no_padding, masked_start, masked_turn, masked_end}

@@ -1,6 +1,6 @@
 -- The keys before i all fit exactly when the flag says so; each key's length byte is read where its place begins.
 use mathlib.Core.Path.{ap}
-use Prim.Native.Nat.{ℕ, ◌-◌, ◌+◌, ◌*◌}
+use Prim.Native.Nat.{ℕ, ◌+◌, ◌*◌}
 use lib.Dec.{leb}
 use Rattle.record.specs.Limits.{spans_at, key_limit}
 use Rattle.form.proofs.Zeros.{passed_start, passed_turn, passed_end, length_byte}

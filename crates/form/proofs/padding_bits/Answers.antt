@@ -1,7 +1,7 @@
 -- The bytes before i are zero, and the others have every bit.
 use mathlib.Core.Path.{◌≡◌, ap, ◌∙◌}
 use mathlib.Core.List.{List, ◌++◌}
-use Prim.Native.Nat.{ℕ, ◌<◌, ◌-◌}
+use Prim.Native.Nat.{ℕ, ◌<◌}
 use native.Mathlib.Omega.{arith}
 use lib.ListN.{set, drop, replicate}
 use borrow.Author.Fill.{fill_none, fill_more}

@@ -1,5 +1,4 @@
 -- `kinds_fit`: kind by kind, the test of the first k.
-use Prim.Native.Nat.{◌-◌}
 use native.Mathlib.Omega.{arith}
 use Rattle.rows.proofs.ReadBack.{fit_none, fit_more, fit_all}
 use Rattle.rows.proofs.kinds_fit.Goals as goal

@@ -1,7 +1,6 @@
 -- `read_rows`: report by report, the first k are those read from the words.
 use mathlib.Core.Path.{refl, ◌∙◌}
 use mathlib.Core.List.{[]}
-use Prim.Native.Nat.{◌-◌}
 use native.Mathlib.Omega.{arith}
 use lib.ListN.{length-set}
 use Rattle.rows.proofs.ReadBack.{reports_none, reports_more, reports_all}

@@ -1,5 +1,5 @@
 -- A walk along the chain: the records passed over have no first grant at the index.
-use Prim.Native.Nat.{◌-◌, ◌≤◌}
+use Prim.Native.Nat.{◌≤◌}
 use Rattle.history.specs.Buckets.{bucket_by}
 use Rattle.history.specs.Logs.{hist}
 use Rattle.history.proofs.Chains.{Stands}

@@ -1,8 +1,6 @@
 -- A walk along the chain: the records passed over have no write at the range and index that counted.
 use mathlib.Core.Path.{refl, sym, ◌∙◌}
-use Prim.Native.Nat.{◌-◌}
 use native.Mathlib.Omega.{arith}
-use Rattle.history.specs.Buckets.{bucket_by_two}
 use Rattle.history.proofs.Logs.{record_length}
 use Rattle.history.proofs.Chains.{stands_first, stands_next}
 use Rattle.firsts.proofs.Grants.{read_at}

@@ -1,6 +1,6 @@
 -- The table's row of each kind is the arm's constant; a kind byte that no arm names is 0 or past the table.
 use mathlib.Core.Path.{◌≡◌, sym, ◌∙◌}
-use mathlib.Core.Logic.{inl, inr, ⊎_elim}
+use mathlib.Core.Logic.{inr, ⊎_elim}
 use Prim.Native.Nat.{◌≤◌}
 use native.Mathlib.Omega.{arith}
 use Rattle.form.proofs.Shapes.{over, past, five_six}
@@ -44,5 +44,6 @@ returns-in_default-2 c =
 pub returns-in-5-to-6 : goal.returns-in-5-to-6
 returns-in-5-to-6 c =
     elim c.in-5-to-6-1.branch [
-      in-10-1 w ↦ (let z : c.args.kind ≡ 10 = omega arith in rw z c.numbered-in-5-to-6.ensures)
-    | in_default+else-kind-lt1+then-kind-lt7 w ↦ c.numbered-in-5-to-6.ensures ∙ sym (five_six c.args.kind (grind arith) (grind arith)) ]
+      | in-10-1 w ↦ (let z : c.args.kind ≡ 10 = omega arith in rw z c.numbered-in-5-to-6.ensures)
+      | in_default+else-kind-lt1+then-kind-lt7 w ↦ c.numbered-in-5-to-6.ensures ∙ sym (five_six c.args.kind (grind arith) (grind arith))
+    ]

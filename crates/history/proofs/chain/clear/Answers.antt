@@ -1,5 +1,4 @@
 -- The first i words are 0, and the others as they were.
-use Prim.Native.Nat.{◌-◌}
 use Rattle.history.proofs.Copies.{cleared_none, cleared_more, cleared_all}
 use Rattle.history.proofs.chain.clear.Goals as goal
 

@@ -1,6 +1,5 @@
 -- The first i bytes of the record are copied, and no other byte is changed.
 use mathlib.Core.Path.{◌≡◌}
-use Prim.Native.Nat.{◌-◌}
 use native.Mathlib.Omega.{arith}
 use Rattle.history.proofs.Copies.{copied_none, copied_more, appended}
 use Rattle.history.proofs.log.append.Goals as goal

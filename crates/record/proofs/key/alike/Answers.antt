@@ -1,6 +1,5 @@
 -- Both loops keep that all places before i were alike: a word that is the same makes its eight bytes so.
 use mathlib.Core.Path.{◌∙◌, sym}
-use Prim.Native.Nat.{◌-◌}
 use native.Mathlib.Omega.{arith}
 use Rattle.record.proofs.Keys.{alike_start, alike_word, alike_byte}
 use Rattle.record.proofs.key.alike.Goals.{then-a-b, else-a-b}

@@ -1,10 +1,8 @@
 -- Each voter is the number at its place; two lists of one length are the same where every place that was passed is.
-use mathlib.Core.Path.{◌≡◌, sym, ◌∙◌}
-use Prim.Native.Nat.{◌-◌}
+use mathlib.Core.Path.{sym, ◌∙◌}
 use native.Mathlib.Omega.{arith}
-use lib.ListN.{get_or}
 use borrow.Author.Count.{below_none, below_more}
-use Rattle.record.specs.Records.{decode, voters_in}
+use Rattle.record.specs.Records.{decode}
 use Rattle.record.proofs.Keys.{differ_length, differ_at, equal_all}
 use Rattle.record.proofs.Records.{voter_at}
 use Rattle.record.proofs.key.same_voters.Goals as goal

@@ -1,6 +1,6 @@
 -- `write_number`: what is still to be written is the rest of the number, byte by byte.
 use mathlib.Core.Path.{refl, sym, ◌∙◌}
-use Prim.Native.Nat.{◌+◌, ◌-◌, ◌≤◌}
+use Prim.Native.Nat.{◌+◌, ◌≤◌}
 use native.Mathlib.Omega.{arith}
 use lib.ListN.{length-set}
 use Rattle.record.proofs.Written.{write_start, write_next, write_end}
