@@ -17,7 +17,7 @@ pub loop-i-preserved : goal.loop-i-preserved
 loop-i-preserved c = (omega arith, appended_take _ _ (omega arith) c.loop-i.invariant.1)
 
 pub overflow_add-result : goal.overflow_add-result
-overflow_add-result c = omega (arith, c.requires, c.well-formed)
+overflow_add-result c = omega (arith, c.requires, c.well_formed)
 
 pub shape_of-out : goal.shape_of-out
 shape_of-out c = appended_length c.loop-i.invariant.1

@@ -27,7 +27,7 @@ loop-i-preserved c =
     (omega arith, name_more c.args.check l.i c.requires.1 c.loop-i-test.true c.if-byte-eq32.false l.invariant.1)
 
 pub overflow_add-result-2 : goal.overflow_add-result-2
-overflow_add-result-2 c = omega (arith, c.requires, c.well-formed)
+overflow_add-result-2 c = omega (arith, c.requires, c.well_formed)
 
 pub shape_of-out : goal.shape_of-out
 shape_of-out c = appended_length c.loop-i.invariant.1
