@@ -1,5 +1,4 @@
 -- `append_text`: the first i bytes of the text are written.
-use Prim.Native.Nat.{◌-◌}
 use native.Mathlib.Omega.{arith}
 use Rattle.sheet_text.proofs.Appends.{appended_none, appended_take, appended_all, appended_length}
 use Rattle.sheet_text.proofs.append.append_text.Goals as goal

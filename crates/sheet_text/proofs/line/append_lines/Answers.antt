@@ -1,5 +1,4 @@
 -- `append_lines`: after k turns the lines of the first k checks are written.
-use Prim.Native.Nat.{◌-◌}
 use native.Mathlib.Omega.{arith}
 use Rattle.sheet_text.specs.Sheets.{line_size}
 use Rattle.sheet_text.proofs.Appends.{appended_length, room_after}

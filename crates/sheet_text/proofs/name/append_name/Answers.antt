@@ -1,5 +1,4 @@
 -- `append_name`: the first i bytes of the name are written, up to the space after it or its whole size.
-use Prim.Native.Nat.{◌-◌}
 use native.Mathlib.Omega.{arith}
 use Rattle.sheet_text.proofs.Appends.{appended_none, appended_length}
 use Rattle.sheet_text.proofs.Names.{padded, all_names, name_more, name_ended, name_full}
