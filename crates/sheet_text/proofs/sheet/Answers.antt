@@ -7,8 +7,9 @@ use Rattle.sheet_text.proofs.sheet.Goals as goal
 
 pub returns-then-out-lt-SHEET_SIZE : goal.returns-then-out-lt-SHEET_SIZE
 returns-then-out-lt-SHEET_SIZE c =
-    let whole = (let a = c.args in
-    short_sheet (sheet_text a.reports a.records a.refusal a.at) a.out.now c.if-out-lt-SHEET_SIZE.true) in record { value = whole.0; out_after = whole.1 }
+    let a = c.args in
+    let whole = short_sheet (sheet_text a.reports a.records a.refusal a.at) a.out.now c.if-out-lt-SHEET_SIZE.true in
+    record { value = whole.0; out_after = whole.1 }
 
 pub append_lines-end-requires : goal.append_lines-end-requires
 append_lines-end-requires c = omega arith
@@ -24,4 +25,5 @@ shape_of-out c =
 pub returns : goal.returns
 unfolding sheet_text
 returns c =
-    let whole = (long_sheet c.if-out-lt-SHEET_SIZE.false (c.append_lines-end.ensures ⨾ c.append_last.ensures)) in record { value = whole.0; out_after = whole.1 }
+    let whole = long_sheet c.if-out-lt-SHEET_SIZE.false (c.append_lines-end.ensures ⨾ c.append_last.ensures) in
+    record { value = whole.0; out_after = whole.1 }
