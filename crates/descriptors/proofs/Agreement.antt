@@ -13,7 +13,7 @@ use Rattle.record.specs.Records.{TraceRecord}
 use Rattle.record.proofs.Booleans.{decide, never, and_left, and_right}
 use Rattle.rules.specs.declared.Case.{Case}
 use Rattle.rules.specs.declared.Case.TheVariants.{Clear}
-use Rattle.rules.specs.History.{History, holds, is_some, any_of, earliest_of, greater, lower, lowest_of}
+use Rattle.rules.specs.History.{History, holds, is_some, any_of, earliest_of, greater, lowest_of}
 use Rattle.rules.specs.Cases.{is_fault, fault, case_of}
 use Rattle.rules.specs.Descriptors.{Entry, puts, role_of, entry_at, same_place, standing, stated, at_in, held_eqb, ahead_fault, differs_fault, statement_fault}
 use Rattle.rules.specs.Descriptors.{agreement}

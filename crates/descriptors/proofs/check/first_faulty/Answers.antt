@@ -3,7 +3,7 @@ use Prim.Native.Nat.{◌-◌}
 use mathlib.Core.Path.{ap}
 use native.Mathlib.Omega.{arith}
 use Rattle.record.specs.Records.{decode}
-use Rattle.rules.specs.Descriptors.{entry_at, standing, stated}
+use Rattle.rules.specs.Descriptors.{entry_at, standing}
 use Rattle.history.proofs.Chains.{stands_first, stands_next}
 use Rattle.history.proofs.Logs.{record_length}
 use Rattle.history.specs.Buckets.{bucket_by}
@@ -23,7 +23,6 @@ loop-i-init c = let a = c.args in (
         (earliest_start a.cap (decode a.rec.now).a a.log.now (new_faulty (entry_at a.index (decode a.rec.now) (hist a.log.now a.count)) (standing (hist a.log.now a.count))) a.count)
         (omega (arith, c.bucket_by.ensures, ap (bucket_by a.cap) c.a.ensures)) c.stated_top-i.ensures.1,
   ),
-
 )
 
 pub becomes_faulty-faulty-requires : goal.becomes_faulty-faulty-requires

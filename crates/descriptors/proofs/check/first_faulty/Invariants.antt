@@ -1,5 +1,5 @@
 -- A walk along the range's statements, newest first: each that becomes faulty replaces the one found before, so the earliest stays.
-use Prim.Native.Nat.{◌-◌, ◌≤◌}
+use Prim.Native.Nat.{◌≤◌}
 use mathlib.Core.Path.{◌≡◌}
 use Rattle.record.specs.Records.{decode}
 use Rattle.rules.specs.Descriptors.{entry_at, standing, stated}

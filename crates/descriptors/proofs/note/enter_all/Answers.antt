@@ -12,5 +12,4 @@ returns c = let a = c.args in record {
   entered_by_range = c.enter_if-2.ensures;
   entered_by_statement = c.enter_if-3.ensures;
   entered_by_generation = c.enter_if-4.ensures;
-
 }

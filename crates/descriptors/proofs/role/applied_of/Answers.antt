@@ -7,7 +7,6 @@ use Rattle.record.specs.Records.{TraceRecord}
 use Rattle.rules.specs.Descriptors.{applied}
 use Rattle.history.proofs.Chains.{stands_first, stands_next}
 use Rattle.history.proofs.Logs.{record_bytes, record_length}
-use Rattle.history.specs.Buckets.{bucket_by_two}
 use Rattle.history.specs.Logs.{hist}
 use Rattle.descriptors.proofs.Walks.{applied_skip, applied_hit, applied_miss, applied_end}
 use Rattle.descriptors.proofs.role.applied_of.Goals as goal
@@ -18,7 +17,6 @@ loop-i-init c = let a = c.args in (
   λ k.
       stands_first (λ n. applied a.id a.range (hist a.log.now n)) (applied_skip a.cap a.id a.range a.log.now) k.applied
       (omega (arith, c.bucket_by_two.ensures)) (refl) (omega (arith, c.bucket_by_two.ensures)) c.applied_top-i.ensures.1,
-
 )
 
 pub is_applied-requires : goal.is_applied-requires

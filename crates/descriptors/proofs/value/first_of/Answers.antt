@@ -5,7 +5,6 @@ use native.Mathlib.Omega.{arith}
 use Rattle.rules.specs.Descriptors.{first_at_generation}
 use Rattle.history.proofs.Chains.{stands_first, stands_next}
 use Rattle.history.proofs.Logs.{record_length}
-use Rattle.history.specs.Buckets.{bucket_by_two}
 use Rattle.history.specs.Logs.{hist}
 use Rattle.descriptors.proofs.Walks.{generation_skip, generation_hit, generation_miss, generation_end, of_is}
 use Rattle.descriptors.proofs.value.first_of.Goals as goal
@@ -16,7 +15,6 @@ loop-i-init c = let a = c.args in (
   λ k.
       stands_first (λ n. first_at_generation a.range a.generation (hist a.log.now n)) (generation_skip a.cap a.range a.generation a.log.now) k.generation
       (omega (arith, c.bucket_by_two.ensures)) (refl) (omega (arith, c.bucket_by_two.ensures)) c.generation_top-i.ensures.1,
-
 )
 
 pub is_of-requires : goal.is_of-requires

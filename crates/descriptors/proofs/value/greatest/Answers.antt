@@ -3,11 +3,9 @@
 use Prim.Native.Nat.{◌-◌}
 use mathlib.Core.Path.{sym}
 use native.Mathlib.Omega.{arith}
-use Rattle.rules.specs.Descriptors.{standing}
 use Rattle.history.proofs.Chains.{stands_first, stands_next}
 use Rattle.history.proofs.Logs.{record_length}
 use Rattle.history.proofs.Queries.{greater_none}
-use Rattle.history.specs.Buckets.{bucket_by}
 use Rattle.descriptors.specs.Answers.{up_to}
 use Rattle.descriptors.proofs.Rising.{greatest_stop}
 use Rattle.descriptors.proofs.Walks.{Greatest, greatest_skip, greatest_next, greatest_done, up_to_is, up_to_range}
@@ -22,7 +20,6 @@ loop-i-init c = let a = c.args in (
         stands_first (Greatest a.cap a.range a.log.now (up_to a.range a.free a.index a.any a.generation) 0) (greatest_skip a.cap a.range a.log.now (up_to a.range a.free a.index a.any a.generation) (up_to_range a.range a.free a.index a.any a.generation) 0) k.standing
         (omega (arith, c.bucket_by.ensures)) (sym (greater_none (λ v. v.index) _)) (omega (arith, c.bucket_by.ensures)) c.standing_top-i.ensures.1,
   ),
-
 )
 
 pub is_up_to-passes-requires : goal.is_up_to-passes-requires

@@ -3,11 +3,9 @@
 use Prim.Native.Nat.{◌-◌}
 use mathlib.Core.Path.{sym}
 use native.Mathlib.Omega.{arith}
-use Rattle.rules.specs.Descriptors.{standing}
 use Rattle.history.proofs.Chains.{stands_first, stands_next}
 use Rattle.history.proofs.Logs.{record_length}
 use Rattle.history.proofs.Queries.{lower_none}
-use Rattle.history.specs.Buckets.{bucket_by}
 use Rattle.descriptors.specs.Answers.{above}
 use Rattle.descriptors.proofs.Rising.{lowest_stop}
 use Rattle.descriptors.proofs.Walks.{Lowest, lowest_skip, lowest_next, lowest_done, above_is, above_range}
@@ -22,7 +20,6 @@ loop-i-init c = let a = c.args in (
         stands_first (Lowest a.cap a.range a.log.now (above a.range a.index a.any a.generation) 0) (lowest_skip a.cap a.range a.log.now (above a.range a.index a.any a.generation) (above_range a.range a.index a.any a.generation) 0) k.standing
         (omega (arith, c.bucket_by.ensures)) (sym (lower_none (λ v. v.index) _)) (omega (arith, c.bucket_by.ensures)) c.standing_top-i.ensures.1,
   ),
-
 )
 
 pub is_above-passes-requires : goal.is_above-passes-requires

@@ -7,7 +7,6 @@ use Rattle.rules.specs.Descriptors.{standing}
 use Rattle.rules.specs.History.{latest_of}
 use Rattle.history.proofs.Chains.{stands_first, stands_next}
 use Rattle.history.proofs.Logs.{record_length}
-use Rattle.history.specs.Buckets.{bucket_by}
 use Rattle.history.specs.Logs.{hist}
 use Rattle.descriptors.specs.Answers.{at_place}
 use Rattle.descriptors.proofs.Rising.{place_stop}
@@ -20,7 +19,6 @@ loop-i-init c = let a = c.args in (
   λ k.
       stands_first (λ n. latest_of (at_place a.range a.index) (standing (hist a.log.now n))) (place_skip a.cap a.range a.index a.log.now) k.standing
       (omega (arith, c.bucket_by.ensures)) (refl) (omega (arith, c.bucket_by.ensures)) c.standing_top-i.ensures.1,
-
 )
 
 pub is_at-requires : goal.is_at-requires

@@ -1,7 +1,6 @@
 -- A walk from block to block: what is weighed so far, with what is still to weigh, is what all weigh.
 use mathlib.Core.Path.{refl, sym}
 use mathlib.Core.Bool.{false}
-use Prim.Native.Nat.{◌-◌}
 use native.Mathlib.Omega.{arith}
 use Rattle.record.specs.Records.{TraceRecord}
 use Rattle.history.proofs.Logs.{record_length}

@@ -1,6 +1,6 @@
 -- A walk from block to block: what is weighed so far, with what is still to weigh, is what all weigh.
 use mathlib.Core.Bool.{false}
-use Prim.Native.Nat.{◌-◌, ◌≤◌}
+use Prim.Native.Nat.{◌≤◌}
 use Rattle.rules.specs.IdsUnique.{blocks_of}
 use Rattle.history.specs.Logs.{hist}
 use Rattle.history.proofs.Chains.{Stands}

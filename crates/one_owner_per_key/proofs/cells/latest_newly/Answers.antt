@@ -15,5 +15,4 @@ returns-else-work-cap-eq1 c = (
   omega (arith, c.newly_before.ensures.0),
   c.newly_before.ensures.1
       ∙ rw (ne_eqb _ 0 c.if-last-eq0.false, ne_eqb _ 1 c.if-work-cap-eq1.false),
-
 )

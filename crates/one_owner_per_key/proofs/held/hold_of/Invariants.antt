@@ -1,5 +1,5 @@
 -- The walk along the chain of node and range leaves out no record that says what is held.
-use Prim.Native.Nat.{◌≤◌, ◌-◌}
+use Prim.Native.Nat.{◌≤◌}
 use Rattle.history.specs.Logs.{hist}
 use Rattle.history.specs.Buckets.{bucket_by_two}
 use Rattle.one_owner_per_key.specs.Columns.{OwnersIndexed, by_hold}

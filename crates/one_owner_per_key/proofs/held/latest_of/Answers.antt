@@ -42,7 +42,6 @@ pub node_below-i-requires : goal.node_below-i-requires
 node_below-i-requires c = (
   c.requires.0.work_holds,
   (omega (arith, c.requires.0), c.requires.0.small),
-
 )
 
 pub loop-i-smaller : goal.loop-i-smaller

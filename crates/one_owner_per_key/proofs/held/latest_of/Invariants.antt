@@ -1,5 +1,5 @@
 -- The walk along the node's chain leaves out no record of the node.
-use Prim.Native.Nat.{◌≤◌, ◌-◌}
+use Prim.Native.Nat.{◌≤◌}
 use Rattle.rules.specs.History.{is_by}
 use Rattle.history.specs.Logs.{hist}
 use Rattle.history.specs.Buckets.{bucket_by}

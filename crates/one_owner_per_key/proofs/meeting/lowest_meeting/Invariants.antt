@@ -1,5 +1,5 @@
 -- Down the list of the ranges newly held, to the node's latest end: what is held is among them.
-use Prim.Native.Nat.{◌≤◌, ◌-◌}
+use Prim.Native.Nat.{◌≤◌}
 use Rattle.record.specs.Records.{decode}
 use Rattle.rules.specs.Descriptors.{span_of}
 use Rattle.history.specs.Logs.{hist}
