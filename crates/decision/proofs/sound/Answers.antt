@@ -1,6 +1,7 @@
 -- sound: the form's number is the record's refusal; each test that the code makes is one of the definition's, in its order.
 use mathlib.Core.Path.{◌≡◌, sym, ap, ◌∙◌}
-use mathlib.Core.Bool.{Bool, false}
+use mathlib.Core.Bool.{Bool}
+use mathlib.Core.List.{List}
 use Prim.Native.Nat.{ℕ, ◌+◌}
 use lib.Dec.{eqb}
 use borrow.Author.Tests.{eq-eqb, ne_eqb}
@@ -9,50 +10,48 @@ use Rattle.record.specs.Records.{decode}
 use Rattle.rules.specs.Events.{stray}
 use Rattle.history.specs.Logs.{hist}
 use Rattle.decision.proofs.Decisions.{sound_form, sound_lost, sound_full, sound_clear, sized}
-use Rattle.decision.proofs.sound.Goals.{After-number_of-form, Else-form-ne0, Else-stray, Start}
 use Rattle.decision.proofs.sound.Goals as goal
 
 -- what the three tests are of
-module _ (c : After-number_of-form) where
-  abbrev s : Start
-  s = c
+abbrev drawn : List ℕ → ℕ
+drawn bytes = refusal_of bytes
 
-  abbrev drawn : ℕ
-  drawn = refusal_of s.args.rec.now
+abbrev lost : List ℕ → List ℕ → ℕ → Bool
+lost bytes log count = stray (decode bytes) (hist log count)
 
-  abbrev lost : Bool
-  lost = stray (decode s.args.rec.now) (hist s.args.log.now s.args.count)
-
-  abbrev full : Bool
-  full = eqb s.args.count s.args.cap
-
-  -- the number at hand is the refusal
-  form : c.number_of_lem.result ≡ drawn
-  form = c.number_of_lem.ensures ∙ c.form_of.ensures
+-- the number at hand is the refusal, which is 0 past the first test
+none : {number form drawn : ℕ} → number ≡ form → form ≡ drawn → number ≡ 0 → drawn ≡ 0
+none n f z = sym (n ∙ f) ∙ z
 
 pub returns-then-form-ne0 : goal.returns-then-form-ne0
 returns-then-form-ne0 c =
-    ap (λ (f : ℕ). 256 + f) (form c) ∙ sound_form (drawn c) (lost c) (full c) (s c).args.concerned (λ z. c.if-form-ne0.true (form c ∙ z))
-
--- .. which is 0 past the first test
-none : (c : Else-form-ne0) → drawn c ≡ 0
-none c = sym (form c) ∙ c.if-form-ne0.false
+    let a = c.args in
+    let bytes = a.rec.now in
+    let form : c.number_of-form.result ≡ drawn bytes = c.number_of-form.ensures ∙ c.form_of.ensures in
+    ap (λ (f : ℕ). 256 + f) form
+    ∙ sound_form (drawn bytes) (lost bytes a.log.now a.count) (eqb a.count a.cap) a.concerned (λ z. c.if-form-ne0.true (form ∙ z))
 
 pub stray-requires : goal.stray-requires
-stray-requires c = ((s c).requires, sized (s c).args.rec.now (none c))
+stray-requires c = (c.requires, sized c.args.rec.now (none c.number_of-form.ensures c.form_of.ensures c.if-form-ne0.false))
 
 pub returns-then-stray : goal.returns-then-stray
 returns-then-stray c =
-    sound_lost (drawn c) (lost c) (full c) (s c).args.concerned (none c) (sym c.stray.ensures ∙ c.if-stray.true)
+    let a = c.args in
+    let bytes = a.rec.now in
+    sound_lost (drawn bytes) (lost bytes a.log.now a.count) (eqb a.count a.cap) a.concerned
+    (none c.number_of-form.ensures c.form_of.ensures c.if-form-ne0.false) (sym c.stray.ensures ∙ c.if-stray.true)
 
 -- past the second the record has an event to continue, or begins one
-kept : (c : Else-stray) → lost c ≡ false
-kept c = sym c.stray.ensures ∙ c.if-stray.false
-
 pub returns-then-count-cap : goal.returns-then-count-cap
 returns-then-count-cap c =
-    sound_full (drawn c) (lost c) (full c) (s c).args.concerned (none c) (kept c) (eq-eqb _ _ c.if-count-cap.true)
+    let a = c.args in
+    let bytes = a.rec.now in
+    sound_full (drawn bytes) (lost bytes a.log.now a.count) (eqb a.count a.cap) a.concerned
+    (none c.number_of-form.ensures c.form_of.ensures c.if-form-ne0.false) (sym c.stray.ensures ∙ c.if-stray.false) (eq-eqb _ _ c.if-count-cap.true)
 
 pub returns : goal.returns
 returns c =
-    sound_clear (drawn c) (lost c) (full c) (s c).args.concerned (none c) (kept c) (ne_eqb _ _ c.if-count-cap.false)
+    let a = c.args in
+    let bytes = a.rec.now in
+    sound_clear (drawn bytes) (lost bytes a.log.now a.count) (eqb a.count a.cap) a.concerned
+    (none c.number_of-form.ensures c.form_of.ensures c.if-form-ne0.false) (sym c.stray.ensures ∙ c.if-stray.false) (ne_eqb _ _ c.if-count-cap.false)
