@@ -1,4 +1,4 @@
--- What the look_ups_lem give, from the judge's own promises. Assumes nothing.
+-- What the look-ups give, from the judge's own promises. Assumes nothing.
 use mathlib.Core.Path.{◌≡◌, refl, sym, ap, ◌∙◌, subst}
 use mathlib.Core.Bool.{Bool, true, false, cond}
 use mathlib.Core.List.{List, [], ◌∷◌}

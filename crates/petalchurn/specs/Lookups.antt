@@ -1,4 +1,4 @@
--- What the look_ups_lem promise: a refusal's number and a value, 0 where the call is refused.
+-- What the look-ups promise: a refusal's number and a value, 0 where the call is refused.
 use Rattle.std.specs.Prelude.{◌≡◌, true, false, cond, List, ◌++◌, ◌⊎◌, ℕ, length, drop, eqb}
 use Rattle.std.proofs.Math.Option.{none, some}
 use Rattle.rules.specs.History.{History}

@@ -14,13 +14,7 @@ use state_words::{
 };
 
 // Opens a judge over a log and a work area, and writes its words.
-#[unsafe(no_mangle)]
-pub extern "C" fn petalchurn_open(
-    tenant: u64,
-    log: &[u8],
-    work: &mut [u64],
-    state: &mut [u64],
-) -> u64
+pub fn petalchurn_open(tenant: u64, log: &[u8], work: &mut [u64], state: &mut [u64]) -> u64
     ensures { OpensWords (record { tenant = tenant }) log.now work.old state.old result work.new state.new }
 {
     if state.len() != STATE_WORDS {
@@ -63,13 +57,7 @@ pub(crate) fn take_into(state: &mut [u64], log: &mut [u8], work: &mut [u64], rec
 }
 
 // Takes a record, or says why not: then everything is as it stood.
-#[unsafe(no_mangle)]
-pub extern "C" fn petalchurn_push(
-    state: &mut [u64],
-    log: &mut [u8],
-    work: &mut [u64],
-    rec: &[u8],
-) -> u64
+pub fn petalchurn_push(state: &mut [u64], log: &mut [u8], work: &mut [u64], rec: &[u8]) -> u64
     ensures { PushesWords state.old log.old work.old rec.now result state.new log.new work.new }
 {
     if !is_state(state) {
@@ -79,8 +67,7 @@ pub extern "C" fn petalchurn_push(
 }
 
 // One of the reports, by its number in printing order.
-#[unsafe(no_mangle)]
-pub extern "C" fn petalchurn_report(state: &[u64], k: u64, out: &mut [u64]) -> u64
+pub fn petalchurn_report(state: &[u64], k: u64, out: &mut [u64]) -> u64
     ensures { ReportsWords state.now k out.old result out.new }
 {
     if !is_state(state) {

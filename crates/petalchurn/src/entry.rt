@@ -5,8 +5,7 @@ use state_words::{is_state, read_state};
 use tally::{enter, number_of};
 
 // Counts the judge that a state's words stand for, or says why not: then the tally is as it stood.
-#[unsafe(no_mangle)]
-pub extern "C" fn petalchurn_tally_enter(state: &[u64], tally: &mut [u8]) -> u64
+pub fn petalchurn_tally_enter(state: &[u64], tally: &mut [u8]) -> u64
     ensures { TalliesWords state.now tally.old result tally.new }
 {
     if !is_state(state) {

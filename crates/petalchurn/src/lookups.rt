@@ -1,4 +1,4 @@
-// The look_ups_lem: one guarded function for every question, and its seven entries.
+// The look-ups: one guarded function for every question, and its seven entries.
 ghost use Rattle.std.specs.Prelude.{[]};
 ghost use Rattle.judge.specs.declared.lookup.Question.TheVariants.{Before, At, FirstAtGeneration, Statements, IsEmpty, HoldersOf, Blocks};
 ghost use Rattle.petalchurn.specs.Lookups.{LooksWords};
@@ -30,36 +30,21 @@ fn looked_bare(state: &[u64], log: &[u8], work: &[u64], question: Question) -> A
 }
 
 // The value of a range at the greatest index below the one given.
-#[unsafe(no_mangle)]
-pub extern "C" fn petalchurn_before(
-    state: &[u64],
-    log: &[u8],
-    work: &[u64],
-    range: u64,
-    index: u64,
-) -> Answer
+pub fn petalchurn_before(state: &[u64], log: &[u8], work: &[u64], range: u64, index: u64) -> Answer
     ensures { LooksWords (Before range index) state.now log.now work.now [] [] result }
 {
     looked_bare(state, log, work, Question::Before(range, index))
 }
 
 // The value of a range at the greatest index not above the one given.
-#[unsafe(no_mangle)]
-pub extern "C" fn petalchurn_at(
-    state: &[u64],
-    log: &[u8],
-    work: &[u64],
-    range: u64,
-    index: u64,
-) -> Answer
+pub fn petalchurn_at(state: &[u64], log: &[u8], work: &[u64], range: u64, index: u64) -> Answer
     ensures { LooksWords (At range index) state.now log.now work.now [] [] result }
 {
     looked_bare(state, log, work, Question::At(range, index))
 }
 
 // The first value of a range and generation.
-#[unsafe(no_mangle)]
-pub extern "C" fn petalchurn_first_at_generation(
+pub fn petalchurn_first_at_generation(
     state: &[u64],
     log: &[u8],
     work: &[u64],
@@ -77,24 +62,21 @@ pub extern "C" fn petalchurn_first_at_generation(
 }
 
 // How many statements there are.
-#[unsafe(no_mangle)]
-pub extern "C" fn petalchurn_statements(state: &[u64], log: &[u8], work: &[u64]) -> Answer
+pub fn petalchurn_statements(state: &[u64], log: &[u8], work: &[u64]) -> Answer
     ensures { LooksWords Statements state.now log.now work.now [] [] result }
 {
     looked_bare(state, log, work, Question::Statements)
 }
 
 // Whether no value has been put: 1, else 0.
-#[unsafe(no_mangle)]
-pub extern "C" fn petalchurn_is_empty(state: &[u64], log: &[u8], work: &[u64]) -> Answer
+pub fn petalchurn_is_empty(state: &[u64], log: &[u8], work: &[u64]) -> Answer
     ensures { LooksWords IsEmpty state.now log.now work.now [] [] result }
 {
     looked_bare(state, log, work, Question::IsEmpty)
 }
 
 // The node of each block that contains an id.
-#[unsafe(no_mangle)]
-pub extern "C" fn petalchurn_holders_of(
+pub fn petalchurn_holders_of(
     state: &[u64],
     log: &[u8],
     work: &[u64],
@@ -107,13 +89,7 @@ pub extern "C" fn petalchurn_holders_of(
 }
 
 // Three words of each block: first, last, node.
-#[unsafe(no_mangle)]
-pub extern "C" fn petalchurn_blocks(
-    state: &[u64],
-    log: &[u8],
-    work: &[u64],
-    out: &mut [u64],
-) -> Answer
+pub fn petalchurn_blocks(state: &[u64], log: &[u8], work: &[u64], out: &mut [u64]) -> Answer
     ensures { LooksWords Blocks state.now log.now work.now out.old out.new result }
 {
     looked(state, log, work, Question::Blocks, out)

@@ -41,8 +41,7 @@ fn show<'a>(state: &[u64], log: &'a [u8], work: &[u64], rec: &'a [u8], reports: 
 
 // Shows what a push of a record would do, and gives a ticket to commit it with: state, log and work area are lent for reading only. Both
 // lists are written also where the record is refused, so their room is tested first.
-#[unsafe(no_mangle)]
-pub extern "C" fn petalchurn_preview<'a>(
+pub fn petalchurn_preview<'a>(
     state: &[u64],
     log: &'a [u8],
     work: &[u64],
@@ -70,13 +69,7 @@ pub extern "C" fn petalchurn_preview<'a>(
 }
 
 // Pushes a ticket's record, unless its count is not the judge's. Nothing rests on where the ticket came from: all is tested anew.
-#[unsafe(no_mangle)]
-pub extern "C" fn petalchurn_commit(
-    state: &mut [u64],
-    log: &mut [u8],
-    work: &mut [u64],
-    ticket: &[u8],
-) -> u64
+pub fn petalchurn_commit(state: &mut [u64], log: &mut [u8], work: &mut [u64], ticket: &[u8]) -> u64
     ensures { CommitsWords state.old log.old work.old ticket.now result state.new log.new work.new }
 {
     if !is_state(state) {

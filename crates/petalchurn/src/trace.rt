@@ -37,8 +37,7 @@ fn write_trace(out: &mut [u64], traced: Traced) -> u64
 }
 
 // Opens a judge, pushes a trace's records up to the first refusal, and writes what it came to.
-#[unsafe(no_mangle)]
-pub extern "C" fn petalchurn_trace(
+pub fn petalchurn_trace(
     tenant: u64,
     log: &mut [u8],
     work: &mut [u64],
