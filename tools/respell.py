@@ -122,15 +122,23 @@ def alike(s, n, to, by={}):
     return by.get(s, set()) - {n}
 
 
-def turned(text, names, strings_too=False):
-    def one(m):
-        return names.get(m[0], m[0])
+# Words of English that a lemma has for its name too: in a comment they stay.
+ENGLISH = ("look-ups", "whole-trace")
+COMMENT = re.compile(r"(?:^|(?<=\s))(?:--|//).*$", re.M)
 
+
+def turned(text, names):
+    """The text with the names respelled, but for strings, and in comments for words of English."""
+    plain = {n: s for n, s in names.items() if n not in ENGLISH}
     out, at = [], 0
-    for s in STRING.finditer(text):
-        out += [TOKEN.sub(one, text[at:s.start()]), s[0]]
-        at = s.end()
-    return "".join(out + [TOKEN.sub(one, text[at:])])
+    pieces = sorted([(m.start(), m.end(), 0) for m in STRING.finditer(text)] + [(m.start(), m.end(), 1) for m in COMMENT.finditer(text)])
+    for start, end, comment in pieces:
+        if start < at:
+            continue
+        out.append(TOKEN.sub(lambda m: names.get(m[0], m[0]), text[at:start]))
+        out.append(TOKEN.sub(lambda m: plain.get(m[0], m[0]), text[start:end]) if comment else text[start:end])
+        at = end
+    return "".join(out + [TOKEN.sub(lambda m: names.get(m[0], m[0]), text[at:])])
 
 
 def imported(text, own):

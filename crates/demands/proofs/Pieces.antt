@@ -147,7 +147,7 @@ unfolding records_in
 records_count [] h = omega arith
 records_count (p ∷ ps) h = let e = records_count ps (decode p ∷ h) in omega arith
 
--- A WHOLE TRACE: where the opening is not refused, reports, look_ups_lem, refusal and record number are those of the trace's bytes
+-- A WHOLE TRACE: where the opening is not refused, reports, look-ups, refusal and record number are those of the trace's bytes
 pub whole_trace : (o : Opening) (c : ℕ) (log work trace : List ℕ) (r : Traced) (log' work' : List ℕ) → Fits (length log) (length work) c
     → TracedBy o log work trace r log' work' → WholeTrace o c trace r (state_of r.judge log' work')
 unfolding sound_pieces first_refusal records_taken

@@ -17,7 +17,7 @@ pub found_put : (log : List ℕ) (n : ℕ) {o : Option Entry} → put log n ≡ 
 found_put log zero e = ap found_by e
 found_put log (suc n) e = ap found_by e
 
--- ---- the look_ups_lem as walks
+-- ---- the look-ups as walks
 
 pub at_up_to : (range index : ℕ) (vs : List Entry) → greatest_up_to range false index true 0 vs ≡ at_in range index vs
 unfolding at_in

@@ -1,4 +1,4 @@
-// `Descriptors`: the values of ranges and their look_ups_lem, and agreement. Every function is safe and ends whatever the log
+// `Descriptors`: the values of ranges and their look-ups, and agreement. Every function is safe and ends whatever the log
 // and the work area hold; what it says of the history holds where the columns are what the history says.
 #![tactic(auto)]
 

@@ -1,4 +1,4 @@
-// The standing values of a range: walks along their chain, and the look_ups_lem.
+// The standing values of a range: walks along their chain, and the look-ups.
 ghost use Rattle.std.specs.Prelude.{◌≡◌, ◌&&◌, ◌||◌, not, cond, ℕ, ◌+◌, ◌*◌, ◌-◌, ◌≤◌, ◌<◌, eqb, leb, ltb, length, get_or};
 ghost use Rattle.std.proofs.Math.Option.{some};
 ghost use Rattle.record.specs.Records.{decode};

@@ -1,4 +1,4 @@
-// The judge of a trace, by value: opening, pushing, previews and commits, reports, look_ups_lem and a whole trace.
+// The judge of a trace, by value: opening, pushing, previews and commits, reports, look-ups and a whole trace.
 #![tactic(auto)]
 
 pub mod answer;

@@ -1,4 +1,4 @@
-// The look_ups_lem: one guard and one shape for every question.
+// The look-ups: one guard and one shape for every question.
 ghost use Rattle.std.specs.Prelude.{◌≡◌, []};
 ghost use Rattle.history.specs.Bounds.{Bounds};
 ghost use Rattle.judge.specs.Lookups.{found_number, truth, value_of, ListedBy, LookedBy};

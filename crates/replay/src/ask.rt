@@ -1,4 +1,4 @@
-// The look_ups_lem of a trace: each question is put to the judge, and its answer held to the stored words.
+// The look-ups of a trace: each question is put to the judge, and its answer held to the stored words.
 use crate::read;
 use crate::refusal::is_nothing;
 use judge::lookup::{Looked, Question};

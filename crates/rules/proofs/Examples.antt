@@ -66,7 +66,7 @@ beginnings_are = refl
 pub strays : map is_stray continuing ≡ map (λ (q : Continuing). q.refused) continuing
 strays = refl
 
--- the look_ups_lem
+-- the look-ups
 pub look_ups_lem : map look_up look_ups ≡ map (λ (r : LookUp). r.answer) look_ups
 unfolding list_eqb any_of those latest_of earliest_of greatest_of told latest firsts held_by applied reached role_of standing stated before_in at_in
     first_at_generation_in before at first_at_generation statements is_empty first_grants blocks_of insert_block in_order blocks holders_of block_words

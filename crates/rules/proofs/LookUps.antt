@@ -1,4 +1,4 @@
--- What the look_ups_lem find among the standing values: `before` and `at` the greatest index, `first_at_generation` the first put.
+-- What the look-ups find among the standing values: `before` and `at` the greatest index, `first_at_generation` the first put.
 use mathlib.Core.Path.{◌≡◌, refl, sym, ap, ◌∙◌}
 use mathlib.Core.Bool.{Bool, true, ◌&&◌}
 use mathlib.Core.List.{List}

@@ -1,4 +1,4 @@
--- `Descriptors`: the values of ranges, their look_ups_lem, and agreement.
+-- `Descriptors`: the values of ranges, their look-ups, and agreement.
 use Rattle.std.specs.Prelude.{◌≡◌, Bool, true, false, cond, not, ◌&&◌, ◌||◌, List, [], ◌∷◌, ℕ, length, get_or, eqb, ltb, leb}
 use Rattle.std.proofs.Math.Option.{Option, none, some}
 use Rattle.record.specs.declared.named.Node.{Node}
@@ -178,7 +178,7 @@ statement_fault vs s = case_of (differs_fault s vs) (at_in s.range s.index vs)
 unfoldable pub agreement : History → Case
 agreement h = or_case (puts_differ h) (earliest_case (statement_fault (standing h)) (stated h))
 
--- the look_ups_lem of a history: the number of the putting record
+-- the look-ups of a history: the number of the putting record
 unfoldable pub before : ℕ → ℕ → History → Option Entry
 before range index h = before_in range index (standing h)
 

@@ -6,7 +6,7 @@ use Rattle.judge.specs.States.{refusal_number}
 use Rattle.judge.specs.Traces.{TracedBy}
 use Rattle.sheet_text.specs.Sheets.{sheet_text, printed, printed_length}
 
--- the sheet of what a whole_trace call gave: its reports, the records taken, and the refusal with its record's number
+-- the sheet of what a whole-trace call gave: its reports, the records taken, and the refusal with its record's number
 unfoldable pub sheet_of : Traced → List ℕ
 sheet_of t = sheet_text t.judge.reports t.judge.count (refusal_number t.refusal) t.at
 
