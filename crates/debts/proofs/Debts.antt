@@ -29,7 +29,8 @@ use Rattle.one_owner_per_key.proofs.Latest.{number_bound, number_is, number_over
 use Rattle.splits.specs.Numbers.{is_registering, latest_registering, registers_as, split_number, named_number}
 use Rattle.splits.specs.Splits.{parent_by, right_by, split_with}
 use Rattle.debts.specs.Walk.{owes_first}
-use Rattle.debts.specs.Debts.{placed_split, split_at, Numbered, is_right, has_voter, is_applied, is_covered, applied_split, covered_split, first_split, is_above}
+use Rattle.debts.specs.Debts.{placed_split, split_at, Numbered, is_right, has_voter, is_applied, is_covered, applied_split, covered_split, first_split}
+use Rattle.debts.specs.Debts.{is_above}
 use Rattle.splits.proofs.Splits.{registers_as_lem, known_is}
 use Rattle.splits.proofs.Registered.{registered_place, place_registered, split_is, named_split}
 use Rattle.debts.proofs.Owing.{first_debt, first_early}
@@ -170,7 +171,8 @@ above_all log t best true q e f g z = absurd (z (eqb-true best 0 e))
 above_all log t best false true e f g z = let l = ltb-true (record_at log (best - 1)).b (record_at log t).b f in omega arith
 above_all log t best false false e f g z = never g refl
 
-pub above_is : (log : List ℕ) (t best : ℕ) {u v : ℕ} → (best ≡ 0 → ⊥) → u ≡ (record_at log (best - 1)).b → v ≡ (record_at log t).b → ltb u v ≡ is_above log t best
+pub above_is : (log : List ℕ) (t best : ℕ) {u v : ℕ} → (best ≡ 0 → ⊥) → u ≡ (record_at log (best - 1)).b → v ≡ (record_at log t).b → ltb u v
+    ≡ is_above log t best
 above_is log t best z e f = rw (ne_eqb best 0 z, e, f)
 
 -- the greater of two, by the two tests
@@ -458,7 +460,8 @@ module _ (log : List ℕ) (node right : ℕ) where
     owes_debt none d e = never e refl
     owes_debt (some t) d e = sym (owes_arises node right z (hist log (i - 1)) t kept d) ∙ owes_here
 
-  module _ (n k : ℕ) {i : ℕ} (l : 0 < i) (w : Owes log node right n i) (d : split_at log k ≡ debt_at node right (record_at log (i - 1)) (hist log (i - 1))) where
+  module _ (n k : ℕ) {i : ℕ} (l : 0 < i) (w : Owes log node right n i)
+      (d : split_at log k ≡ debt_at node right (record_at log (i - 1)) (hist log (i - 1))) where
     pub owes_next : k ≡ 0 → Owes log node right n (i - 1)
     owes_next z s e = owes_before l s (w s e) (sym d ∙ ap (λ (t : Bool). cond t none (placed_split log (k - 1))) (eq-eqb k 0 z))
 

@@ -69,7 +69,8 @@ module _ (node range : ℕ) (log : List ℕ) where
 
   -- what the code makes of the two numbers
   abbrev recorded_as : ℕ → Option ℕ
-  recorded_as n = cond (ltb (refused_number node (hist log n)) (latest_number tr (hist log n))) (some (record_at log (latest_number tr (hist log n) - 1)).c) none
+  recorded_as n = cond (ltb (refused_number node (hist log n)) (latest_number tr (hist log n)))
+      (some (record_at log (latest_number tr (hist log n) - 1)).c) none
 
   recording_apart : (x : TraceRecord) → is_kind 2 x ≡ true → is_kind 10 x ≡ false
   recording_apart x = kind_apart 2 10 x (λ q. omega arith)

@@ -60,7 +60,8 @@ module _ (log : List ℕ) (node : ℕ) {count cap : ℕ} {work : List ℕ} (hf :
       ap (λ (n : ℕ). not (eqb n 0)) (word_is restated_cell_lem log node hf.restated taken k l b) ∙ sym (restated_mark node (hist log (suc k)))
       ∙ ap (is_restated node) (hist_suc log k)
 
-  server_at_lem : is_by node (record_at log k) ≡ true → is_kind 4 (record_at log k) ≡ false → get_or work (server_at * cap + k) 0 ≡ server_number node (hist log k)
+  server_at_lem : is_by node (record_at log k) ≡ true → is_kind 4 (record_at log k) ≡ false → get_or work (server_at * cap + k) 0
+      ≡ server_number node (hist log k)
   server_at_lem b q =
       word_is server_cell_lem log node hf.servers taken k l b ∙ ap (server_number node) (hist_suc log k) ∙ server_step node (record_at log k) (hist log k) b
       ∙ rw q
@@ -118,7 +119,8 @@ module _ (log : List ℕ) (node : ℕ) {count cap : ℕ} {work : List ℕ} (hf :
   comes_cases range index voters false e = refl
 
   -- m, v: the mark and the server that were read there
-  pub comes_test : (range index : ℕ) (voters : List ℕ) {r : Bool} {m v : ℕ} → m ≡ get_or work (restated_at * cap + k) 0 → v ≡ get_or work (server_at * cap + k) 0
+  pub comes_test : (range index : ℕ) (voters : List ℕ) {r : Bool} {m v : ℕ} → m ≡ get_or work (restated_at * cap + k) 0 → v
+      ≡ get_or work (server_at * cap + k) 0
       → r ≡ is_by node (record_at log k) && eqb (record_at log k).a range && applying index (record_at log k) (not (eqb m 0)) && any_of (λ u. eqb u v) voters
       → r ≡ comes node range index voters (record_at log k) (hist log k)
   unfolding comes

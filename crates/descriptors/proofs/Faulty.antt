@@ -75,7 +75,8 @@ module _ (cap range : ℕ) (log : List ℕ) (q : Entry → Bool) where
 
 -- the test of the walk, read from the record at a place
 module _ (log : List ℕ) (k : ℕ) (x : TraceRecord) (h : History) (index next last : ℕ) where
-  pub faulty_is : {bytes : List ℕ} {t : Bool} → put log next ≡ next_in (entry_at index x h) (standing h) → put log last ≡ last_in (entry_at index x h) (standing h)
+  pub faulty_is : {bytes : List ℕ} {t : Bool} → put log next ≡ next_in (entry_at index x h) (standing h) → put log last
+      ≡ last_in (entry_at index x h) (standing h)
       → bytes ≡ bytes_at k log → t ≡ becomes_faulty (put log next) (put log last) x index (decode bytes) (standing h)
       → t ≡ new_faulty (entry_at index x h) (standing h) (stated_entry log k)
   unfolding new_faulty falls_behind goes_against ahead_in held_by

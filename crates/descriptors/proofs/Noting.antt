@@ -14,12 +14,14 @@ use Rattle.record.specs.declared.named.Node.TheVariants.{Marked, Missing}
 use Rattle.record.specs.Records.{TraceRecord}
 use Rattle.record.proofs.Booleans.{never}
 use Rattle.rules.specs.History.{History, Tells, is_kind, is_some, when, given, holds, any_of, latest_of, earliest_of, add_some, add_first, told, firsts}
-use Rattle.rules.specs.Descriptors.{Entry, Role, puts, states, neither, held_by, role_of, entry_at, put_by, stated_by, tells_put, tells_stated, same_place, standing}
+use Rattle.rules.specs.Descriptors.{Entry, Role, puts, states, neither, held_by, role_of, entry_at, put_by, stated_by, tells_put, tells_stated}
+use Rattle.rules.specs.Descriptors.{same_place, standing}
 use Rattle.rules.specs.Descriptors.{stated, statements, is_empty, first_at_generation_in, first_at_generation}
 use Rattle.rules.proofs.Placed.{any_earliest, any_latest}
 use Rattle.rules.proofs.Roles.{puts_entry, states_entry, put_generation}
 use Rattle.rules.proofs.Standing.{standing_cons, stated_cons}
-use Rattle.history.specs.Places.{applied_heads, applied_links, standing_heads, standing_links, stated_heads, stated_links, generation_heads, generation_links, counts}
+use Rattle.history.specs.Places.{applied_heads, applied_links, standing_heads, standing_links, stated_heads, stated_links, generation_heads}
+use Rattle.history.specs.Places.{generation_links, counts}
 use Rattle.history.specs.Columns.{Column, cell_of, Chained, clamp, Put}
 use Rattle.history.proofs.Cells.{cell_new, Same, put_apart, column_agrees, column_put, Zeros, column_clear}
 use Rattle.history.proofs.Chains.{clamped, chained_agrees, entered, not_entered, chained_clear}
@@ -343,7 +345,8 @@ module _ (work work' w4 : List ℕ) (count cap : ℕ) (x : TraceRecord) (t : Tol
         (step_if t.first generation_at n l gl (omega arith) a.entered_by_generation
         (chain_if t.states a.entered_by_statement l rl (generation_heads * cap) (generation_links * cap) (omega arith) (omega arith) (inr (omega arith))
         (chain_if t.stands a.entered_by_range l rl (generation_heads * cap) (generation_links * cap) (omega arith) (omega arith) (inr (omega arith))
-        (chain_if applied a.entered_by_node l nl (generation_heads * cap) (generation_links * cap) (omega arith) (omega arith) (inr (omega arith)) d.generation))))
+        (chain_if applied a.entered_by_node l nl (generation_heads * cap) (generation_links * cap) (omega arith) (omega arith)
+            (inr (omega arith)) d.generation))))
 
     by_counts : Column (cell_of counts_after (x ∷ h)) (counts * cap) cap work'
     by_counts =

@@ -151,7 +151,8 @@ module _ (cap : ℕ) (log work : List ℕ) (n k : ℕ) {b : ℕ} (l : k < n) (m 
     stop_range = eqb-true _ _ (and_right (leb 16384 (get_or work (counts * cap + k) 0)) (eqb (record_at log k).a range) first_two)
 
     stop_index : (record_at log k).b ≤ index
-    stop_index = leb-true _ _ (and_right (leb 16384 (get_or work (counts * cap + k) 0) && eqb (record_at log k).a range) (leb (record_at log k).b index) all_hold)
+    stop_index = leb-true _ _ (and_right (leb 16384 (get_or work (counts * cap + k) 0) && eqb (record_at log k).a range)
+        (leb (record_at log k).b index) all_hold)
 
     not_below_lem : (v : Entry) → v.range ≡ range → index ≤ v.index → not_below (put_entry log k) v ≡ true
     not_below_lem v r l =

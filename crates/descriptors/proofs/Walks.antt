@@ -257,7 +257,8 @@ standing_more x h {v} e =
 standing_same : (x : TraceRecord) (h : History) → new_value x h ≡ none → standing (x ∷ h) ≡ standing h
 unfolding standing
 standing_same x h e =
-    firsts_afresh same_place tells_put (x ∷ h) ∙ told_skip (fresh same_place tells_put) x h (sym (new_fresh x h) ∙ e) ∙ sym (firsts_afresh same_place tells_put h)
+    firsts_afresh same_place tells_put (x ∷ h) ∙ told_skip (fresh same_place tells_put) x h (sym (new_fresh x h) ∙ e)
+        ∙ sym (firsts_afresh same_place tells_put h)
 
 -- an earlier one that passes stays the earliest
 earliest_stays : (p : Entry → Bool) (v : Entry) (vs : List Entry) → any_of p vs ≡ true → earliest_of p (v ∷ vs) ≡ earliest_of p vs
@@ -330,7 +331,8 @@ module _ (cap range generation : ℕ) where
 
     pub generation_miss : t ≡ false → first_at_generation range generation (hist log i) ≡ first_at_generation range generation (hist log (i - 1))
     unfolding first_at_generation first_at_generation_in
-    generation_miss h = generation_at ∙ (earliest_ignores (of_generation range generation)).other (put_entry log (i - 1)) (standing (hist log (i - 1))) (sym e ∙ h)
+    generation_miss h = generation_at ∙ (earliest_ignores (of_generation range generation)).other (put_entry log (i - 1))
+        (standing (hist log (i - 1))) (sym e ∙ h)
 
   pub generation_end : (log : List ℕ) (i : ℕ) → i ≡ 0 → first_at_generation range generation (hist log i) ≡ none
   unfolding first_at_generation first_at_generation_in earliest_of
@@ -338,13 +340,15 @@ module _ (cap range generation : ℕ) where
 
 -- ---- the chain of applied indexes
 
-by_marked : (node : ℕ) (n : Node) (cap : ℕ) (x : TraceRecord) (range : ℕ) → by_node node n ≡ true → is_kind 1 x || is_kind 3 x || is_kind 4 x ≡ true → x.a ≡ range
+by_marked : (node : ℕ) (n : Node) (cap : ℕ) (x : TraceRecord) (range : ℕ) → by_node node n ≡ true → is_kind 1 x || is_kind 3 x || is_kind 4 x ≡ true
+    → x.a ≡ range
     → applied_at cap x n ≡ some (bucket_by_two cap node range)
 by_marked node Missing cap x range b k r = never b refl
 by_marked node (Marked m) cap x range b k r = let e : m.0 ≡ node = eqb-true _ _ b in rw (k, r, e)
 
 module _ (cap node range : ℕ) where
-  applied_bucket_lem : (x : TraceRecord) (h : History) (v : ℕ) → tells_applied node range x h ≡ some v → applied_bucket cap x h ≡ some (bucket_by_two cap node range)
+  applied_bucket_lem : (x : TraceRecord) (h : History) (v : ℕ) → tells_applied node range x h ≡ some v → applied_bucket cap x h
+      ≡ some (bucket_by_two cap node range)
   unfolding applied_bucket
   applied_bucket_lem x h v e =
       let t = when_holds (is_by node x && (is_kind 1 x || is_kind 3 x || is_kind 4 x) && eqb x.a range) x.b e in
@@ -360,8 +364,10 @@ module _ (cap node range : ℕ) where
 
 module _ (node range : ℕ) (log : List ℕ) (i : ℕ) where
   module _ {bytes : List ℕ} {t : Bool} (l : 0 < i) (e : bytes ≡ bytes_at (i - 1) log)
-      (q : t ≡ is_by node (decode bytes) && (is_kind 1 (decode bytes) || is_kind 3 (decode bytes) || is_kind 4 (decode bytes)) && eqb (decode bytes).a range) where
-    is_applied : is_by node (record_at log (i - 1)) && (is_kind 1 (record_at log (i - 1)) || is_kind 3 (record_at log (i - 1)) || is_kind 4 (record_at log (i - 1)))
+      (q : t ≡ is_by node (decode bytes) && (is_kind 1 (decode bytes) || is_kind 3 (decode bytes) || is_kind 4 (decode bytes)) && eqb
+          (decode bytes).a range) where
+    is_applied : is_by node (record_at log (i - 1)) && (is_kind 1 (record_at log (i - 1)) || is_kind 3 (record_at log (i - 1)) || is_kind 4
+        (record_at log (i - 1)))
         && eqb (record_at log (i - 1)).a range ≡ t
     is_applied = sym (rw (record_bytes log (i - 1) e) at q)
 

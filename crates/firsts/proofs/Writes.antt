@@ -125,7 +125,8 @@ module _ (range index : ℕ) (log : List ℕ) where
       look_outside (λ h. any_of (placed range index) (writes h)) (first_bucket cap) (bucket_by_two cap range index) log
       (λ x h n. placed_outside range index x h cap n)
 
-  pub counted_hit : (cap : ℕ) {i b : ℕ} → 0 < i → In (first_bucket cap) b log (i - 1) → placed_at range index (record_at log (i - 1)) ≡ true → counted_in i ≡ true
+  pub counted_hit : (cap : ℕ) {i b : ℕ} → 0 < i → In (first_bucket cap) b log (i - 1) → placed_at range index (record_at log (i - 1)) ≡ true
+      → counted_in i ≡ true
   counted_hit cap {i} l m t =
       look_less (λ h. any_of (placed range index) (writes h)) log i l ∙ placed_here range index (record_at log (i - 1)) (hist log (i - 1)) cap m t
 

@@ -123,7 +123,8 @@ module _ (place : List ℕ) (seen i from : ℕ) (len : length place ≡ 32) (fit
       record { within = omega arith; is = h.is ∙ rw (m, e, and_zero_r, or_zero_r) }
 
   -- a byte of the padding counts
-  masked_padding : Masked place seen i → get_or place 0 0 < i → Masked place (bit_or seen (bit_and (get_or place i 0) (get_or padding_bits (from + i) 0))) (i + 1)
+  masked_padding : Masked place seen i → get_or place 0 0 < i
+      → Masked place (bit_or seen (bit_and (get_or place i 0) (get_or padding_bits (from + i) 0))) (i + 1)
   masked_padding h k =
       let q : from + i ≡ 32 + (from + i - 32) = omega arith in
       let e : get_or padding_bits (from + i) 0 ≡ 255 = ap (λ (n : ℕ). get_or padding_bits n 0) q ∙ bits_high (from + i - 32) (omega arith) in

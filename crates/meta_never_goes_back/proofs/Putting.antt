@@ -51,7 +51,8 @@ unfolding standing
 standing_at log n m = told_at log n (told_by tells_put (hist log n) (firsts_told same_place tells_put (hist log n) m))
 
 pub found_at_lem : (range generation : ℕ) (log : List ℕ) (n : ℕ) (v : Entry) → first_at_generation range generation (hist log n) ≡ some v → PutAt log n v
-found_at_lem range generation log n v e = by_found (first_at_generation range generation (hist log n)) e (first_at_generation_right range generation (hist log n))
+found_at_lem range generation log n v e = by_found (first_at_generation range generation (hist log n)) e
+    (first_at_generation_right range generation (hist log n))
   where
     by_found : (o : Option Entry) → o ≡ some v
         → Looked (Having range generation) (Soonest (Having range generation) (standing (hist log n))) (standing (hist log n)) o → PutAt log n v

@@ -69,7 +69,8 @@ module _ (log : List ℕ) (count node : ℕ) {cap : ℕ} {work : List ℕ} (ix :
       (clamped (get_or work (21 * cap + k) 0) (latest_end node (hist log (suc k))) (suc k) (ended_word k (omega arith) q)
       (number_bound (λ x _. ends_all node x) log (suc k)))
 
-  newest_at : (last : ℕ) → last ≤ count → (0 < last → is_by node (record_at log (last - 1)) ≡ true) → newest_in work cap last ≡ latest_newly node (hist log last)
+  newest_at : (last : ℕ) → last ≤ count → (0 < last → is_by node (record_at log (last - 1)) ≡ true) → newest_in work cap last
+      ≡ latest_newly node (hist log last)
   newest_at zero l e = sym (rw (hist_none, number_none (newly_holds node)))
   newest_at (suc k) l e =
       let s : suc k - 1 ≡ k = omega arith in

@@ -188,7 +188,8 @@ module _ (node range : ℕ) (log : List ℕ) (n : ℕ) where
   })
 
   -- here, where it was not held before
-  here : is_by node (record_at log n) ≡ true → is_holding (record_at log n) ≡ true → eqb (record_at log n).a range ≡ true → has_hold node range (hist log n) ≡ false
+  here : is_by node (record_at log n) ≡ true → is_holding (record_at log n) ≡ true → eqb (record_at log n).a range ≡ true
+      → has_hold node range (hist log n) ≡ false
       → Began node range log (latest_end node (hist log (suc n))) (suc n)
   here b p a h =
       let q : (record_at log n).a ≡ range = eqb-true (record_at log n).a range a in

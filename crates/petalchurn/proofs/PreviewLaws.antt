@@ -223,7 +223,8 @@ module _ (state log work rec reports ticket : List ℕ) where
       -- a record that would be taken has 368 bytes
       pub preview_size : r ≡ 0 → length rec ≡ 368
       unfolding push_refusal
-      preview_size z = (room_of {cap = (judge_in state).capacity} {count = (judge_in state).count} {log = log} {work = work} {bytes = rec} (sym number ∙ z)).size
+      preview_size z = (room_of {cap = (judge_in state).capacity} {count = (judge_in state).count} {log = log} {work = work} {bytes = rec}
+          (sym number ∙ z)).size
 
 -- ---- a commit
 

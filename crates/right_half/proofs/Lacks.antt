@@ -137,7 +137,8 @@ module _ (node range : ℕ) (log : List ℕ) (n : ℕ) {k f : ℕ} (ek : k ≡ r
       eqb-false (restated_number node (hist log n)) 0 (not-true _ (sym (restated_mark node (hist log n)) ∙ is)) in omega arith
 
   pub with_dropped : k ≤ f → false ≡ restated_with node range (hist log n)
-  with_dropped l = sym (restated_with_lem node range log n known ∙ rw (le-ltb (refused_number node (hist log n)) (restated_number node (hist log n)) (omega arith)))
+  with_dropped l = sym (restated_with_lem node range log n known
+      ∙ rw (le-ltb (refused_number node (hist log n)) (restated_number node (hist log n)) (omega arith)))
 
   pub with_held : {b : Bool} → f < k → has_hold node range (hist log (k - 1)) ≡ b → b ≡ restated_with node range (hist log n)
   with_held {b} l e =

@@ -47,7 +47,8 @@ pub kinds_listed : (ns : List ℕ) → ns ≡ map (λ c. c.kinds) checks → (k 
 kinds_listed ns e k l = ap (λ (ms : List ℕ). get_or ms k 0) e ∙ kinds_at checks (check_at check_count) k l
 
 -- the report at a place is that of the check at that place
-map_at : (o : Opening) (h : History) (cs : List Check) (d : Check) (k : ℕ) → k < length cs → get_or (map (report_by o h) cs) k passed ≡ report_by o h (get_or cs k d)
+map_at : (o : Opening) (h : History) (cs : List Check) (d : Check) (k : ℕ) → k < length cs → get_or (map (report_by o h) cs) k passed
+    ≡ report_by o h (get_or cs k d)
 map_at o h [] d k l = absurd (omega arith)
 map_at o h (c ∷ cs) d zero l = refl
 map_at o h (c ∷ cs) d (suc k) l = map_at o h cs d k (omega arith)

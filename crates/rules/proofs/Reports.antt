@@ -68,7 +68,8 @@ module _ (f : History → Case) where
   report_of_kept x h kind v = report_of_step x h ∙ rw v
 
   -- a pass says that the report before was one, and that the check is clear now
-  pub report_of_pass : (x : TraceRecord) (h : History) → (report_of f (x ∷ h)).verdict ≡ Pass → ((report_of f h).verdict ≡ Pass) × (is_fault (f (x ∷ h)) ≡ false)
+  pub report_of_pass : (x : TraceRecord) (h : History) → (report_of f (x ∷ h)).verdict ≡ Pass → ((report_of f h).verdict ≡ Pass)
+      × (is_fault (f (x ∷ h)) ≡ false)
   report_of_pass x h e =
       pass_by (report_of f h).verdict (report_of f h) (f (x ∷ h)) (position (x ∷ h)) refl (ap (λ (r : Report). r.verdict) (sym (report_of_step x h)) ∙ e)
 

@@ -161,7 +161,8 @@ unfolding Arises writes
 risen [] n = rw (firsts_nil tells_write same_write) alone
 risen (x ∷ h) n = go (tells_write x h) refl (risen h (λ a. n (inr a)))
   where
-    pick : (w : Write) (s : Bool) → tells_write x h ≡ some w → any_of (same_write w) (firsts same_write tells_write h) ≡ s → Risen (firsts same_write tells_write h)
+    pick : (w : Write) (s : Bool) → tells_write x h ≡ some w → any_of (same_write w) (firsts same_write tells_write h) ≡ s
+        → Risen (firsts same_write tells_write h)
         → Risen (firsts same_write tells_write (x ∷ h))
     pick w true t k r = rw (firsts_known same_write tells_write x h w t k) r
     pick w false t k r =

@@ -92,7 +92,8 @@ registered_after log x n {v} {m} {k} e f g =
 module _ (log : List ℕ) {count cap : ℕ} {work : List ℕ} (col : Column (cell_of registered_cell (hist log count)) (26 * cap) cap work) (taken : count ≤ cap)
     (few : cap ≤ 4096) where
   -- the word of the record at place k
-  registered_word : (k : ℕ) → k < count → get_or work (26 * cap + k) 0 ≡ 8192 * named_number (record_at log k) (hist log k) + latest_registering (hist log (suc k))
+  registered_word : (k : ℕ) → k < count → get_or work (26 * cap + k) 0
+      ≡ 8192 * named_number (record_at log k) (hist log k) + latest_registering (hist log (suc k))
   unfolding registered_cell
   registered_word k l =
       col.word k (omega arith) ∙ cell_at registered_cell log count k l

@@ -69,7 +69,8 @@ as_cases : (log : List ℕ) (y : TraceRecord) (m : ℕ) (t : Bool) (s : Register
 as_cases log y m true s e = none_some e
 as_cases log y m false s e = some_inj.0 e
 
-pub split_is : (log : List ℕ) (y : TraceRecord) (t : ℕ) (s : Registered) → registers y (hist log t) ≡ some s → split_with log y (named_number y (hist log t)) ≡ s
+pub split_is : (log : List ℕ) (y : TraceRecord) (t : ℕ) (s : Registered) → registers y (hist log t) ≡ some s
+    → split_with log y (named_number y (hist log t)) ≡ s
 split_is log y t s e =
     as_cases log y (named_number y (hist log t)) (eqb (named_number y (hist log t)) 0) s (sym (registers_as_lem log y t) ∙ e)
 

@@ -16,7 +16,8 @@ use Rattle.record.specs.declared.named.RangeCause.TheVariants.{Split}
 use Rattle.record.specs.Named.{cause_of, cause_number}
 use Rattle.record.specs.Records.{TraceRecord}
 use Rattle.rules.specs.History.{History, is_kind, when, or_else, is_some, holds, given, any_of, add_some, firsts}
-use Rattle.rules.specs.RightHalf.{pending_by, uses_up, pending, Registered, created_split, pending_split, split_by, tells_split, is_split, registered, is_registered}
+use Rattle.rules.specs.RightHalf.{pending_by, uses_up, pending, Registered, created_split, pending_split, split_by, tells_split, is_split, registered}
+use Rattle.rules.specs.RightHalf.{is_registered}
 use Rattle.rules.specs.RightHalf.{unless_known, registers}
 use Rattle.rules.proofs.Once.{registered_step}
 use Rattle.rules.proofs.Skips.{any_of_nil}

@@ -214,7 +214,8 @@ module _ (log : List ℕ) (node : ℕ) {count cap top last v : ℕ} {work : List
       → v ≡ restated_number node (hist log top)
   restated_is col q = q ∙ number_state restated_cell_lem log node col taken upto e (restated_none node) (restated_bound node log)
 
-  pub refused_is : Column (cell_of refused_cell (hist log count)) (24 * cap) cap work → v ≡ number_in (24 * cap) work last → v ≡ refused_number node (hist log top)
+  pub refused_is : Column (cell_of refused_cell (hist log count)) (24 * cap) cap work → v ≡ number_in (24 * cap) work last → v
+      ≡ refused_number node (hist log top)
   refused_is col q = q ∙ number_state refused_cell_lem log node col taken upto e (number_none (λ x _. refuses node x)) (refused_bound node log)
 
   pub pendingly_is : Column (cell_of pending_cell (hist log count)) (25 * cap) cap work → v ≡ number_in (25 * cap) work last

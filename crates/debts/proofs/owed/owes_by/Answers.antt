@@ -41,7 +41,8 @@ returns-then-latest_coming-ne0 c =
     let f = c.if-cancel-t.floor in
     let y = c.record_at-split.result.now in
     λ ix. owes_coming a.log.now a.count a.node.0 a.t a.cancel
-    (floor_is _ _ _ (elim c.if-cancel-t.branch [ then-cancel-t w ↦ inl (w.if-cancel-t.true, w.floor-is) | else-cancel-t w ↦ inr (w.if-cancel-t.false, w.floor-is) ])) (c.latest_coming.ensures ix
+    (floor_is _ _ _ (elim c.if-cancel-t.branch [ then-cancel-t w ↦ inl (w.if-cancel-t.true, w.floor-is) | else-cancel-t w ↦ inr
+        (w.if-cancel-t.false, w.floor-is) ])) (c.latest_coming.ensures ix
     ∙ ap (λ (m : ℕ). above f (latest_number (comes a.node.0 m c.b-index.result (decode y).voters)
     (hist a.log.now a.count))) c.parent_of-parent.ensures
     ∙ ap (λ (m : ℕ). above f (latest_number (comes a.node.0 (parent_by (decode y)) m (decode y).voters) (hist a.log.now a.count)))
@@ -55,7 +56,8 @@ returns-then-t-cancel c =
     let f = c.if-cancel-t.floor in
     let y = c.record_at-split.result.now in
     λ ix. owes_cancelled a.log.now a.count a.node.0 a.t a.cancel
-    (floor_is _ _ _ (elim c.if-cancel-t.branch [ then-cancel-t w ↦ inl (w.if-cancel-t.true, w.floor-is) | else-cancel-t w ↦ inr (w.if-cancel-t.false, w.floor-is) ]))
+    (floor_is _ _ _ (elim c.if-cancel-t.branch [ then-cancel-t w ↦ inl (w.if-cancel-t.true, w.floor-is) | else-cancel-t w ↦ inr
+        (w.if-cancel-t.false, w.floor-is) ]))
     (c.latest_coming.ensures ix
     ∙ ap (λ (m : ℕ). above f (latest_number (comes a.node.0 m c.b-index.result (decode y).voters)
     (hist a.log.now a.count))) c.parent_of-parent.ensures
@@ -84,7 +86,8 @@ returns c =
     let f = c.if-cancel-t.floor in
     let y = c.record_at-split.result.now in
     λ ix. owes_at_first a.log.now a.count a.node.0 a.t a.cancel
-    (floor_is _ _ _ (elim c.if-cancel-t.branch [ then-cancel-t w ↦ inl (w.if-cancel-t.true, w.floor-is) | else-cancel-t w ↦ inr (w.if-cancel-t.false, w.floor-is) ]))
+    (floor_is _ _ _ (elim c.if-cancel-t.branch [ then-cancel-t w ↦ inl (w.if-cancel-t.true, w.floor-is) | else-cancel-t w ↦ inr
+        (w.if-cancel-t.false, w.floor-is) ]))
     (c.latest_coming.ensures ix
     ∙ ap (λ (m : ℕ). above f (latest_number (comes a.node.0 m c.b-index.result (decode y).voters)
     (hist a.log.now a.count))) c.parent_of-parent.ensures

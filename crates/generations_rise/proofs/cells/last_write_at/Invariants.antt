@@ -10,7 +10,8 @@ abbrev pub invariant-loop-i : goal.invariant-loop-i
 invariant-loop-i l =
     (l.i ≤ l.count)
     × (GenerationsIndexed l.cap (hist l.log l.count) l.work
-    → Stands (key_bucket l.cap) (bucket_by_key l.cap (key_in l.place)) l.log (λ n. last_write_at (key_in l.place) (hist l.log n)) (last_write_at (key_in l.place) (hist l.log l.count)) l.i)
+    → Stands (key_bucket l.cap) (bucket_by_key l.cap (key_in l.place)) l.log (λ n. last_write_at (key_in l.place) (hist l.log n))
+        (last_write_at (key_in l.place) (hist l.log l.count)) l.i)
 
 abbrev pub decreases-loop-i : goal.decreases-loop-i
 decreases-loop-i l = l.i

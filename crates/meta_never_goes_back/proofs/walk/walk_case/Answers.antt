@@ -11,7 +11,8 @@ pub walk-init : goal.walk-init
 walk-init c = λ m. walked_start c.start_of-start.ensures
 
 pub loop-i-init : goal.loop-i-init
-loop-i-init c = turn_first (omega arith) (omega arith) (record { is = sym c.key_less.ensures ∙ c.if-not-key_less.false }) c.name_before-i.ensures.0 c.name_before-i.ensures.1
+loop-i-init c = turn_first (omega arith) (omega arith) (record { is = sym c.key_less.ensures
+    ∙ c.if-not-key_less.false }) c.name_before-i.ensures.0 c.name_before-i.ensures.1
 
 pub key_case-case-requires : goal.key_case-case-requires
 key_case-case-requires c = (omega (arith, c.loop-i.invariant.known, c.requires.0), c.requires.1)
@@ -35,16 +36,21 @@ pub loop-i-smaller : goal.loop-i-smaller
 loop-i-smaller c = omega (arith, c.name_before-i-in-loop-i.ensures.0, c.if-i-eq0.false)
 
 pub loop-i-preserved : goal.loop-i-preserved
-loop-i-preserved c = turn_more (omega (arith, c.requires.0)) (omega (arith, c.requires.0)) c.loop-i.invariant c.if-i-eq0.false c.stands-standing.ensures c.record_at-old.ensures c.start_of.ensures c.nearer-near.ensures c.end_of.ensures c.nearer-nearest.ensures c.name_before-i-in-loop-i.ensures
+loop-i-preserved c = turn_more (omega (arith, c.requires.0)) (omega
+    (arith, c.requires.0)) c.loop-i.invariant c.if-i-eq0.false c.stands-standing.ensures c.record_at-old.ensures c.start_of.ensures c.nearer-near.ensures c.end_of.ensures c.nearer-nearest.ensures c.name_before-i-in-loop-i.ensures
 
 pub walk-smaller : goal.walk-smaller
 walk-smaller c = above_falls c.loop-i.invariant.up c.loop-i.invariant.mem
 
 pub walk-preserved : goal.walk-preserved
-walk-preserved c = λ m. walked_on (c.walk.invariant m) (seen_stand (c.loop-i.invariant.seen m) c.if-i-eq0.true) c.key_case-case.ensures c.loop-i.invariant.up (seen_gap (c.loop-i.invariant.seen m) c.if-i-eq0.true) (sym c.is_fault.ensures ∙ c.if-is_fault.false)
+walk-preserved c = λ m. walked_on (c.walk.invariant m) (seen_stand
+    (c.loop-i.invariant.seen m) c.if-i-eq0.true) c.key_case-case.ensures c.loop-i.invariant.up (seen_gap (c.loop-i.invariant.seen m) c.if-i-eq0.true)
+    (sym c.is_fault.ensures ∙ c.if-is_fault.false)
 
 pub returns-then-not-key_less : goal.returns-then-not-key_less
 returns-then-not-key_less c = λ m. walked_end (c.walk.invariant m) c.end_of-end.ensures (record { is = sym c.key_less.ensures ∙ c.if-not-key_less.true }) refl
 
 pub returns-then-is_fault : goal.returns-then-is_fault
-returns-then-is_fault c = λ m. walked_at (c.walk.invariant m) (seen_stand (c.loop-i.invariant.seen m) c.if-i-eq0.true) c.key_case-case.ensures c.end_of-end.ensures (record { is = sym c.key_less.ensures ∙ c.if-not-key_less.false }) (sym c.is_fault.ensures ∙ c.if-is_fault.true)
+returns-then-is_fault c = λ m. walked_at (c.walk.invariant m)
+    (seen_stand (c.loop-i.invariant.seen m) c.if-i-eq0.true) c.key_case-case.ensures c.end_of-end.ensures
+    (record { is = sym c.key_less.ensures ∙ c.if-not-key_less.false }) (sym c.is_fault.ensures ∙ c.if-is_fault.true)

@@ -28,14 +28,16 @@ pub returns-then-not-is_state : goal.returns-then-not-is_state
 returns-then-not-is_state c =
     let a = c.args in
     let none : is_state a.state.now ≡ false = sym c.is_state.ensures ∙ c.if-not-is_state.true in
-    preview_unfit a.state.now a.log.now a.work.now a.rec.now a.reports.now a.ticket.now (room c.args.reports.now c.args.ticket.now c.if-reports-ticket.false) none
+    preview_unfit a.state.now a.log.now a.work.now a.rec.now a.reports.now a.ticket.now
+        (room c.args.reports.now c.args.ticket.now c.if-reports-ticket.false) none
     (front_passes a.reports.now (room_rows a.reports.now a.ticket.now (room c.args.reports.now c.args.ticket.now c.if-reports-ticket.false)) c.clear.ensures)
     c.clear_ticket.ensures
 
 pub show-refusal-requires : goal.show-refusal-requires
 show-refusal-requires c =
     let a = c.args in
-    (state_facts a.state.now (sym c.is_state.ensures ∙ c.if-not-is_state.false), room_rows a.reports.now a.ticket.now (room c.args.reports.now c.args.ticket.now c.if-reports-ticket.false))
+    (state_facts a.state.now (sym c.is_state.ensures ∙ c.if-not-is_state.false), room_rows a.reports.now a.ticket.now
+        (room c.args.reports.now c.args.ticket.now c.if-reports-ticket.false))
 
 pub clear_ticket-requires-then-refusal-ne0 : goal.clear_ticket-requires-then-refusal-ne0
 clear_ticket-requires-then-refusal-ne0 c =
@@ -44,7 +46,8 @@ clear_ticket-requires-then-refusal-ne0 c =
 pub returns-then-refusal-ne0 : goal.returns-then-refusal-ne0
 returns-then-refusal-ne0 c =
     let a = c.args in
-    preview_refused a.state.now a.log.now a.work.now a.rec.now a.reports.now a.ticket.now (room c.args.reports.now c.args.ticket.now c.if-reports-ticket.false) (sym c.is_state.ensures ∙ c.if-not-is_state.false)
+    preview_refused a.state.now a.log.now a.work.now a.rec.now a.reports.now a.ticket.now
+        (room c.args.reports.now c.args.ticket.now c.if-reports-ticket.false) (sym c.is_state.ensures ∙ c.if-not-is_state.false)
     c.show-refusal.ensures c.if-refusal-ne0.true c.clear_ticket-then-refusal-ne0.ensures
 
 pub bounds-state-1 : goal.bounds-state-1
@@ -56,7 +59,8 @@ pub write_ticket-requires : goal.write_ticket-requires
 write_ticket-requires c =
     let a = c.args in (
       room_ticket a.reports.now a.ticket.now (room c.args.reports.now c.args.ticket.now c.if-reports-ticket.false),
-      preview_size a.state.now a.log.now a.work.now a.rec.now a.reports.now a.ticket.now (room c.args.reports.now c.args.ticket.now c.if-reports-ticket.false) (sym c.is_state.ensures ∙ c.if-not-is_state.false)
+      preview_size a.state.now a.log.now a.work.now a.rec.now a.reports.now a.ticket.now
+          (room c.args.reports.now c.args.ticket.now c.if-reports-ticket.false) (sym c.is_state.ensures ∙ c.if-not-is_state.false)
           c.show-refusal.ensures c.if-refusal-ne0.false,
     )
 
@@ -64,5 +68,6 @@ pub returns : goal.returns
 unfolding judge_in
 returns c =
     let a = c.args in
-    preview_taken a.state.now a.log.now a.work.now a.rec.now a.reports.now a.ticket.now (room c.args.reports.now c.args.ticket.now c.if-reports-ticket.false) (sym c.is_state.ensures ∙ c.if-not-is_state.false)
+    preview_taken a.state.now a.log.now a.work.now a.rec.now a.reports.now a.ticket.now
+        (room c.args.reports.now c.args.ticket.now c.if-reports-ticket.false) (sym c.is_state.ensures ∙ c.if-not-is_state.false)
     c.show-refusal.ensures c.if-refusal-ne0.false c.write_ticket.ensures

@@ -11,4 +11,5 @@ pub returns-then-a-i : goal.returns-then-a-i
 returns-then-a-i c = let f = c.alike-i.ensures in sym (alike_prefix _ _ _ f.within.0 f.within.1 f.same c.if-a-i.true (omega arith))
 
 pub returns : goal.returns
-returns c = let f = c.alike-i.ensures in sym (alike_differ _ _ _ f.within.0 f.within.1 f.same (omega arith) (omega arith) (f.differ (omega arith) (omega arith)))
+returns c = let f = c.alike-i.ensures in sym (alike_differ _ _ _ f.within.0 f.within.1 f.same (omega arith) (omega arith)
+    (f.differ (omega arith) (omega arith)))

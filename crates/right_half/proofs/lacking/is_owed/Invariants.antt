@@ -9,7 +9,8 @@ use Rattle.right_half.proofs.lacking.is_owed.Given as goal
 
 abbrev pub invariant-loop-i : goal.invariant-loop-i
 invariant-loop-i l =
-    (l.i ≤ l.count) × (Known l.cap (hist l.log l.count) l.work → l.refused ≡ refused_number l.node.0 (hist l.log l.count) → Unowed l.log l.count l.node.0 l.right l.i)
+    (l.i ≤ l.count) × (Known l.cap (hist l.log l.count) l.work → l.refused ≡ refused_number l.node.0 (hist l.log l.count)
+        → Unowed l.log l.count l.node.0 l.right l.i)
 
 abbrev pub decreases-loop-i : goal.decreases-loop-i
 decreases-loop-i l = l.i

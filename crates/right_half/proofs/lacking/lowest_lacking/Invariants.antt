@@ -12,8 +12,10 @@ use Rattle.right_half.proofs.lacking.lowest_lacking.Given as goal
 
 abbrev pub invariant-loop-i : goal.invariant-loop-i
 invariant-loop-i l =
-    (l.i ≤ l.count) × (Known l.cap (hist l.log l.count) l.work → (s : Registered) → registers (decode l.rec) (hist l.log l.count) ≡ some s → l.parent ≡ s.parent → l.index
-    ≡ s.index → l.right ≡ s.right → Lowering (by_recording l.cap) (recorded_bucket l.cap l.parent) l.log l.count (lacks s (decode l.rec) (hist l.log l.count)) l.i (found_in l.best))
+    (l.i ≤ l.count) × (Known l.cap (hist l.log l.count) l.work → (s : Registered) → registers (decode l.rec) (hist l.log l.count) ≡ some s → l.parent
+        ≡ s.parent → l.index
+    ≡ s.index → l.right ≡ s.right → Lowering (by_recording l.cap) (recorded_bucket l.cap l.parent) l.log l.count
+        (lacks s (decode l.rec) (hist l.log l.count)) l.i (found_in l.best))
 
 abbrev pub decreases-loop-i : goal.decreases-loop-i
 decreases-loop-i l = l.i
