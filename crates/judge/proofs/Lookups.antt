@@ -1,14 +1,12 @@
 -- A look-up's ways to answer: refused, of no capacity and so of no records, too long for the list, and given. Assumes nothing.
 use mathlib.Core.Path.{◌≡◌, refl, sym, ap, ◌∙◌, subst}
 use mathlib.Core.Bool.{Bool, true, false, cond}
-use mathlib.Core.List.{List, [], ◌∷◌, ◌++◌}
-use mathlib.Core.Logic.{inl, inr, ⊎_elim}
+use mathlib.Core.List.{List, [], ◌++◌}
+use mathlib.Core.Logic.{inl, inr}
 use Prim.Native.Nat.{ℕ, ◌≤◌}
 use native.Mathlib.Omega.{arith}
 use lib.ListN.{length, drop}
 use borrow.Author.Tests.{le-ltb}
-use types.Run.{OneOf}
-use denote.Enum.Declared.{tag_of}
 use Rattle.record.proofs.Booleans.{never}
 use Rattle.rules.specs.History.{History, told, firsts, those, greatest_of, earliest_of}
 use Rattle.rules.specs.Descriptors.{standing, stated, before_in, at_in, first_at_generation_in, before, at, first_at_generation, statements, is_empty}
@@ -25,7 +23,6 @@ use Rattle.judge.specs.declared.state.Judge.{Judge}
 use Rattle.judge.specs.declared.state.Refusal.TheVariants.{Nothing, Judge as Unfit, Output}
 use Rattle.intake.specs.Words.{Indexed}
 use Rattle.judge.specs.Lookups.{value_of, words_of, writes, ListedBy, lends, Answered, LookedBy}
-use Rattle.judge.specs.contracts.lookup.Question as QuestionT
 use Rattle.decision.proofs.Suiting.{Suiting, suiting}
 
 -- no words are written of no records
@@ -47,18 +44,13 @@ empty_none = refl
 pub none_empty : (q : Question) → q ≡ IsEmpty → 1 ≡ value_of q []
 none_empty q e = sym (ap (λ (p : Question). value_of p []) e ∙ empty_none)
 
-not_empty : OneOf (0 ∷ 1 ∷ 2 ∷ 3 ∷ 5 ∷ 6 ∷ []) 4 → ⊥
-not_empty =
-    ⊎_elim (λ e. omega arith) (⊎_elim (λ e. omega arith) (⊎_elim (λ e. omega arith)
-    (⊎_elim (λ e. omega arith) (⊎_elim (λ e. omega arith) (λ e. omega arith)))))
-
-pub none_others : (q : Question) → OneOf (0 ∷ 1 ∷ 2 ∷ 3 ∷ 5 ∷ 6 ∷ []) (tag_of QuestionT.the_type q) → 0 ≡ value_of q []
+pub none_others : (q : Question) → (q ≡ IsEmpty → ⊥) → 0 ≡ value_of q []
 unfolding before before_in at at_in first_at_generation first_at_generation_in statements stated told standing firsts greatest_of earliest_of holders_of blocks in_order blocks_of first_grants those
 none_others (Before range index) k = refl
 none_others (At range index) k = refl
 none_others (FirstAtGeneration range generation) k = refl
 none_others Statements k = refl
-none_others IsEmpty k = absurd (not_empty k)
+none_others IsEmpty k = absurd (k refl)
 none_others (HoldersOf id) k = refl
 none_others Blocks k = refl
 

@@ -6,4 +6,4 @@ pub returns-in-IsEmpty : goal.returns-in-IsEmpty
 returns-in-IsEmpty c = none_empty c.args.question c.in-IsEmpty.is
 
 pub returns-in_default : goal.returns-in_default
-returns-in_default c = none_others c.args.question c.in_default.in_default-own.keys2
+returns-in_default c = none_others c.args.question c.in_default.not-IsEmpty

@@ -1,6 +1,6 @@
 -- `feed`: whatever the rest of the trace comes to from here, the whole comes to from the start; each record goes one on, or ends it.
 use mathlib.Core.Path.{◌≡◌, refl, sym, ◌∙◌, subst}
-use Prim.Native.Nat.{ℕ, ◌<◌, ◌+◌, ◌-◌}
+use Prim.Native.Nat.{ℕ, ◌<◌, ◌≤◌, ◌+◌, ◌-◌}
 use native.Mathlib.Omega.{arith}
 use lib.ListN.{length, take, drop, length-drop}
 use mathlib.Core.List.{List}
@@ -9,129 +9,114 @@ use Rattle.record.specs.Records.{decode}
 use Rattle.rules.specs.declared.Opening.{Opening}
 use Rattle.events.specs.Numbers.{event_in}
 use Rattle.decision.specs.Refusals.{PushNumber}
-use Rattle.intake.specs.Takes.{Keepable, KeptIn}
+use Rattle.intake.specs.Takes.{Keepable, KeptIn, PreviewsIn}
 use Rattle.decision.proofs.Decisions.{push_number}
 use Rattle.intake.proofs.Takes.{takes_off, takes_on, keepable}
 use Rattle.judge.specs.States.{State}
 use Rattle.judge.specs.Pushes.{state_of}
 use Rattle.judge.specs.Traces.{Feeds, ends, judge_by}
 use Rattle.judge.proofs.Traces.{record_part, record_rest, feeds_on, feeds_off}
-use Rattle.judge.proofs.trace.feed.Goals.{After-preview-refusal, At-loop-at, Start}
 use Rattle.judge.proofs.trace.feed.Goals as goal
 
 -- where a record has been judged: what the rest of the trace comes to
-module _ (c : After-preview-refusal) where
-  abbrev l : At-loop-at
-  l = c
-
-  abbrev s : Start
-  s = l.before.before.before.before.before
-
-  abbrev o : Opening
-  o = record { tenant = s.args.tenant }
-
-  abbrev trace : List ℕ
-  trace = s.args.trace.now
-
-  abbrev end : ℕ
-  end = c.record-end.result
-
-  abbrev first : State
-  first = state_of (judge_by o s.args.cap 0 0 s.args.rows.now) s.args.log.now s.args.work.now
-
+module _ (o : Opening) (cap at n e end : ℕ) (log work rows trace : List ℕ) where
   abbrev bytes : List ℕ
-  bytes = take (end - l.loop.at) (drop l.loop.at trace)
+  bytes = take (end - at) (drop at trace)
 
-  abbrev rows' : List ℕ
-  rows' = c.preview.new.1.1.0
+  -- the record has been judged, from `at` to `end`, with this answer; the first state is that before the trace
+  record Judged (first : State) (r : ℕ) (rows' : List ℕ) : Type 0 where
+    size : length rows ≡ 56
+    some : at < length trace
+    ended : (at < end) × (end ≤ length trace) × (end ≤ at + 368) × (end < length trace → end ≡ at + 368)
+    past : (f a : ℕ) (t : State) → Feeds (state_of (judge_by o cap n e rows) log work) (drop at trace) n f a t → Feeds first trace 0 f a t
+    judged : PreviewsIn o cap n e log work rows bytes r rows'
 
-  size : length l.loop.rows ≡ 56
-  size = l.loop.inv.4 ∙ s.pre
+  module _ {first : State} {r : ℕ} {rows' : List ℕ} (j : Judged first r rows') where
+    some_left : 0 < length (drop at trace)
+    some_left = let s = j.some in rw (length-drop at trace) (omega arith)
 
-  some : 0 < length (drop l.loop.at trace)
-  some =
-      let x : l.loop.at < length trace = c.loop-test.true in
-      rw (length-drop l.loop.at trace) (omega arith)
+    part : bytes ≡ take 368 (drop at trace)
+    part = record_part trace at end j.ended
 
-  part : bytes ≡ take 368 (drop l.loop.at trace)
-  part = record_part trace l.loop.at end c.record-end.ensures
+    on : {log' work' : List ℕ} {e' : ℕ} → r ≡ 0 → KeptIn cap n log work bytes log' work' → e' ≡ event_in e (decode bytes) → (f a : ℕ) (t : State)
+        → Feeds (state_of (judge_by o cap (n + 1) e' rows') log' work') (drop end trace) (n + 1) f a t → Feeds first trace 0 f a t
+    on {log'} {work'} {e'} q k v f a t w =
+        let there = state_of (judge_by o cap (n + 1) e' rows') log' work' in
+        let left : drop end trace ≡ drop 368 (drop at trace) = record_rest trace at end j.ended in
+        let p = takes_on o cap n e log work rows bytes j.judged q k in
+        j.past f a t
+        (feeds_on o cap n e log work rows (drop at trace) some_left part j.size p refl v
+        (subst (λ (b : List ℕ). Feeds there b (n + 1) f a t) left w))
 
-  kept : c.preview.result ≡ 0 → Keepable s.args.cap l.loop.n l.loop.log l.loop.work bytes
-  kept = keepable o s.args.cap l.loop.n l.loop.events l.loop.log l.loop.work l.loop.rows bytes c.preview.ensures
+    off : (r ≡ 0 → ⊥) → Feeds first trace 0 r (n + 1) (state_of (judge_by o cap n e rows') log work)
+    off q =
+        let p = takes_off o cap n e log work rows bytes j.judged q in
+        j.past _ _ _ (feeds_off o cap n e log work rows (drop at trace) some_left part j.size p q)
 
-  on : {log' work' : List ℕ} {e' : ℕ} → c.preview.result ≡ 0 → KeptIn s.args.cap l.loop.n l.loop.log l.loop.work bytes log' work'
-      → e' ≡ event_in l.loop.events (decode bytes) → (f a : ℕ) (t : State)
-      → Feeds (state_of (judge_by o s.args.cap (l.loop.n + 1) e' rows') log' work') (drop end trace) (l.loop.n + 1) f a t
-      → Feeds first trace 0 f a t
-  on {log'} {work'} {e'} q k v f a t w =
-      let there = state_of (judge_by o s.args.cap (l.loop.n + 1) e' rows') log' work' in
-      let ended = c.record-end.ensures in
-      let e : drop end trace ≡ drop 368 (drop l.loop.at trace) = record_rest trace l.loop.at end ended in
-      let i = l.loop in
-      let p = takes_on o s.args.cap i.n i.events i.log i.work i.rows bytes c.preview.ensures q k in
-      i.inv.6 f a t
-      (feeds_on o s.args.cap i.n i.events i.log i.work i.rows (drop i.at trace) some part size p refl v
-      (subst (λ (r : List ℕ). Feeds there r (i.n + 1) f a t) e w))
-
-  off : (c.preview.result ≡ 0 → ⊥)
-      → Feeds first trace 0 c.preview.result (l.loop.n + 1)
-      (state_of (judge_by o s.args.cap l.loop.n l.loop.events rows') l.loop.log l.loop.work)
-  off q =
-      let i = l.loop in
-      let p = takes_off o s.args.cap i.n i.events i.log i.work i.rows bytes c.preview.ensures q in
-      i.inv.6 _ _ _ (feeds_off o s.args.cap i.n i.events i.log i.work i.rows (drop i.at trace) some part size p q)
-
-  few : PushNumber c.preview.result
-  few =
-      let f = push_number s.args.cap l.loop.n l.loop.log (length l.loop.work) bytes in
-      subst PushNumber (sym c.preview.ensures.refusal) f
+    few : PushNumber r
+    few = let f = push_number cap n log (length work) bytes in subst PushNumber (sym j.judged.refusal) f
 
 pub loop-at-init : goal.loop-at-init
 loop-at-init c = (omega arith, omega arith, refl, refl, refl, λ f. f, λ f a t w. w)
 
 pub preview-refusal-requires : goal.preview-refusal-requires
-preview-refusal-requires c =
-    c.loop-at.invariant.4 ∙ c.requires
-
-pub shape_of-log-then-refusal-ne0 : goal.shape_of-log-then-refusal-ne0
-shape_of-log-then-refusal-ne0 c = (l c).loop.inv.2
-
-pub shape_of-work-then-refusal-ne0 : goal.shape_of-work-then-refusal-ne0
-shape_of-work-then-refusal-ne0 c = (l c).loop.inv.3
-
-pub shape_of-rows-then-refusal-ne0 : goal.shape_of-rows-then-refusal-ne0
-shape_of-rows-then-refusal-ne0 c = c.preview-refusal.ensures.size ∙ (l c).loop.invariant.4
+preview-refusal-requires c = c.loop-at.invariant.4 ∙ c.requires
 
 pub returns-then-refusal-ne0 : goal.returns-then-refusal-ne0
 returns-then-refusal-ne0 c =
+    let a = c.args in
+    let o : Opening = record { tenant = a.tenant } in
+    let l = c.loop-at in
+    let i = l.invariant in
+    let p = c.preview-refusal.ensures in
+    let end = c.record_end-end in
+    let first = state_of (judge_by o a.cap 0 0 a.rows.now) a.log.now a.work.now in
+    let j : Judged o a.cap l.at l.n l.events end.result l.log l.work l.rows a.trace.now first c.preview-refusal.result c.preview-refusal.new.rows =
+    record { size = i.4 ∙ c.requires; some = c.loop-at-test.true; ended = end.ensures; past = i.6; judged = p } in
     record {
-      feeds = off c c.if-refusal-ne0.true;
-      size = c.preview-refusal.ensures.size ∙ (l c).loop.invariant.4;
-      fits = λ f. c.preview-refusal.ensures.fits ((l c).loop.invariant.5 f);
-      few = few c;
+      feeds = off o a.cap l.at l.n l.events end.result l.log l.work l.rows a.trace.now j c.if-refusal-ne0.true;
+      size = p.size ∙ i.4;
+      fits = λ f. p.fits (i.5 f);
+      few = few o a.cap l.at l.n l.events end.result l.log l.work l.rows a.trace.now j;
     }
 
+-- a record that is not refused can be kept, and so is whole
+kept : {o : Opening} {cap n e r : ℕ} {log work rows bytes rows' : List ℕ} → PreviewsIn o cap n e log work rows bytes r rows' → r ≡ 0
+    → Keepable cap n log work bytes
+kept {o} {cap} {n} {e} {r} {log} {work} {rows} {bytes} p z = keepable o cap n e log work rows bytes p z
+
 pub keep-requires : goal.keep-requires
-keep-requires c = kept c c.if-refusal-ne0.false
+keep-requires c = kept c.preview-refusal.ensures c.if-refusal-ne0.false
 
 pub event_after-events-requires : goal.event_after-events-requires
 event_after-events-requires c =
-    (kept c c.if-refusal-ne0.false).size
+    let a = c.args in
+    let l = c.loop-at in
+    let k : Keepable a.cap l.n l.log l.work (take (c.record_end-end.result - l.at) (drop l.at a.trace.now)) =
+    kept c.preview-refusal.ensures c.if-refusal-ne0.false in
+    k.size
 
 pub loop-at-preserved : goal.loop-at-preserved
 loop-at-preserved c =
-    let i = (l c).loop.invariant in
-    let e = c.record_end-end.ensures in
-    let a = e.0 in
-    let b = e.1 in
+    let a = c.args in
+    let o : Opening = record { tenant = a.tenant } in
+    let l = c.loop-at in
+    let i = l.invariant in
+    let p = c.preview-refusal.ensures in
+    let end = c.record_end-end in
+    let first = state_of (judge_by o a.cap 0 0 a.rows.now) a.log.now a.work.now in
+    let j : Judged o a.cap l.at l.n l.events end.result l.log l.work l.rows a.trace.now first c.preview-refusal.result c.preview-refusal.new.rows =
+    record { size = i.4 ∙ c.requires; some = c.loop-at-test.true; ended = end.ensures; past = i.6; judged = p } in
+    let d = end.ensures.0 in
+    let b = end.ensures.1 in
     let n = i.1 in (
       omega arith,
       omega arith,
       c.keep.auto.log ∙ i.2,
       c.keep.auto.work ∙ i.3,
-      c.preview-refusal.ensures.size ∙ i.4,
-      λ f. c.preview-refusal.ensures.fits (i.5 f),
-      on c c.if-refusal-ne0.false c.keep.ensures c.event_after-events.ensures,
+      p.size ∙ i.4,
+      λ f. p.fits (i.5 f),
+      on o a.cap l.at l.n l.events end.result l.log l.work l.rows a.trace.now j c.if-refusal-ne0.false c.keep.ensures c.event_after-events.ensures,
     )
 
 pub returns : goal.returns

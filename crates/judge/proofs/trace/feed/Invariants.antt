@@ -10,10 +10,11 @@ use Rattle.judge.proofs.trace.feed.Given as goal
 
 abbrev pub invariant-loop-at : goal.invariant-loop-at
 invariant-loop-at l =
-    (l.at ≤ length l.trace) × (l.n ≤ l.at) × (length l.log ≡ length l.initial.log) × (length l.work ≡ length l.initial.work) × (length l.rows ≡ length l.initial.rows)
+    (l.at ≤ length l.trace) × (l.n ≤ l.at) × (length l.log ≡ length l.initial.log)
+    × (length l.work ≡ length l.initial.work) × (length l.rows ≡ length l.initial.rows)
     × (KindsFit l.initial.rows 0 → KindsFit l.rows 0)
-    × ((f a : ℕ) (t : State) → Feeds (state_of (judge_by (record { l.tenant = l.tenant }) l.cap l.n l.events l.rows) l.log l.work) (drop l.at l.trace) l.n f a t
-    → Feeds (state_of (judge_by (record { l.tenant = l.tenant }) l.cap 0 0 l.initial.rows) l.initial.log l.initial.work) l.trace 0 f a t)
+    × ((f a : ℕ) (t : State) → Feeds (state_of (judge_by (record { tenant = l.tenant }) l.cap l.n l.events l.rows) l.log l.work) (drop l.at l.trace) l.n f a t
+    → Feeds (state_of (judge_by (record { tenant = l.tenant }) l.cap 0 0 l.initial.rows) l.initial.log l.initial.work) l.trace 0 f a t)
 
 abbrev pub decreases-loop-at : goal.decreases-loop-at
 decreases-loop-at l = length l.trace - l.at

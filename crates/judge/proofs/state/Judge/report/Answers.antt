@@ -31,11 +31,11 @@ module _ (j : Judge) (k : ℕ) where
 pub returns-then-not-fit : goal.returns-then-not-fit
 returns-then-not-fit c =
     let a = c.args in
-    let f = c.fits2 in
+    let f = c.fits-fit in
     refused a.self a.k f.ensures.1 (sym f.ensures.0 ∙ not-true f.result.holds c.if-not-fit.true) c.pass.ensures
 
 pub returns : goal.returns
 returns c =
     let a = c.args in
-    let f = c.fits2 in
+    let f = c.fits-fit in
     given a.self a.k f.ensures.1 (sym f.ensures.0 ∙ not-false f.result.holds c.if-not-fit.false) c.report_no-report.ensures
