@@ -121,7 +121,7 @@ taken {cap} h x {w} {work} a f n = record {
 -- the chain of the firsts after `IdsUnique` took a record, and then this crate: a RaftApply is entered here, any other kind was there
 pub firsts_noted : {cap : ℕ} {h : History} {x : TraceRecord} {mid work' : List ℕ} → (is_kind 3 x ≡ true → FirstsIndexed cap h mid)
     → (is_kind 3 x ≡ false → FirstsIndexed cap (x ∷ h) mid) → GenerationsTaken cap h x mid work' → DescriptorsIndexed cap h mid
-        → FirstsIndexed cap (x ∷ h) work'
+    → FirstsIndexed cap (x ∷ h) work'
 firsts_noted {cap} {h} {x} {mid} {work'} apply other g d = go (is_kind 3 x) refl
   where
     go : (t : Bool) → is_kind 3 x ≡ t → FirstsIndexed cap (x ∷ h) work'

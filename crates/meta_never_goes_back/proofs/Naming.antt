@@ -65,7 +65,7 @@ module _ (cap : ℕ) (work : List ℕ) where
   word_is : {k m : ℕ} (b : Bool) → 0 < k → k ≤ 4096 → get_or work (latest_name * cap + (k - 1)) 0 ≡ m + cond b 8192 0 → m ≤ k → name_before cap work k ≡ m
   word_is {k} {m} b l s e u =
       word_some (λ z. omega arith) ∙ clamped (get_or work (latest_name * cap + (k - 1)) 0 % 8192) m k
-          (ap (λ (w : ℕ). w % 8192) e ∙ word_rest m b (omega arith)) u
+      (ap (λ (w : ℕ). w % 8192) e ∙ word_rest m b (omega arith)) u
 
   -- the word before a place is the number of the latest name before it
   pub before_is : (log : List ℕ) (n : ℕ) {k : ℕ} → MetaIndexed cap (hist log n) work → k ≤ n → n ≤ cap → cap ≤ 4096

@@ -68,7 +68,7 @@ module _ (f : Tells ℕ) (b : ℕ) (log : List ℕ) (n : ℕ) (P : ℕ → Bool)
   lower_next {at} {i} {j} {best} {best'} o l w eb a e =
       let t : get_or work at 0 ≡ latest_in f (hist log (i - 1)) b = ap (λ (k : ℕ). get_or work k 0) a ∙ link_at f log c.downs (omega arith) taken (w.here o) in
       let q : j ≡ latest_in f (hist log (i - 1)) b = e ∙ clamped (get_or work at 0) (latest_in f (hist log (i - 1)) b) (i - 1) t
-          (latest_bound f b log (i - 1)) in
+      (latest_bound f b log (i - 1)) in
       record {
         here = λ k. rw q (latest_in_lem f b log (i - 1) (rw q at k));
         sound = rw eb (entered_by_node (record_at log (i - 1)).node best w.sound);

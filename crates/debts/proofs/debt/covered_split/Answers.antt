@@ -38,14 +38,12 @@ greater_split-best-requires c = (
           (arith, c.requires.1, c.loop-i.invariant.1.0),
     ),
   ),
-
 )
 
 pub registering_by-i-requires-in-loop-i : goal.registering_by-i-requires-in-loop-i
 registering_by-i-requires-in-loop-i c = (
   c.requires.0.work_holds,
   (omega (arith, c.requires.0, c.requires.1, c.loop-i.invariant.0), c.requires.0.small),
-
 )
 
 pub loop-i-smaller : goal.loop-i-smaller

@@ -1,5 +1,5 @@
 -- All registering records from i on are taken over.
-use Prim.Native.Nat.{◌+◌, ◌-◌, ◌≤◌}
+use Prim.Native.Nat.{◌+◌, ◌≤◌}
 use Rattle.history.specs.Logs.{hist, record_at}
 use Rattle.splits.specs.Columns.{Known}
 use Rattle.debts.proofs.Debts.{Covering}
@@ -8,7 +8,7 @@ use Rattle.debts.proofs.debt.covered_split.Given as goal
 abbrev pub invariant-loop-i : goal.invariant-loop-i
 invariant-loop-i l =
     (l.i ≤ l.at + 1) × ((l.best ≤ l.at + 1) × (Known l.cap (hist l.log l.count) l.work
-        → Covering l.log (l.at + 1) (record_at l.log l.at) l.right l.server.0 l.i l.best))
+    → Covering l.log (l.at + 1) (record_at l.log l.at) l.right l.server.0 l.i l.best))
 
 abbrev pub decreases-loop-i : goal.decreases-loop-i
 decreases-loop-i l = l.i

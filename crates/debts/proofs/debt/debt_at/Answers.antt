@@ -17,7 +17,7 @@ returns c =
     record {
       within = c.first_debt.ensures.within;
       arises = λ ix. (debt_first a.log.now a.at a.node.0 a.right c.if-k-ne0.false (c.own_debt-k.ensures.is ix)
-            (c.first_debt.ensures.is ix)).is;
+          (c.first_debt.ensures.is ix)).is;
       found = λ ix. (debt_first a.log.now a.at a.node.0 a.right c.if-k-ne0.false (c.own_debt-k.ensures.is ix)
-            (c.first_debt.ensures.is ix)).found;
+          (c.first_debt.ensures.is ix)).found;
     }

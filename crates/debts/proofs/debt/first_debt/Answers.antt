@@ -15,7 +15,6 @@ owes_first-requires c = (
         c.args.at c.record_at.ensures
         (omega (arith, c.requires.0, c.requires.1)),
   ),
-
 )
 
 pub returns-then-owes_first : goal.returns-then-owes_first

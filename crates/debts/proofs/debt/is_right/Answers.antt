@@ -24,7 +24,6 @@ right_of-requires c = (
   record_length c.args.log.now
       c.args.t c.record_at.ensures
       (omega (arith, c.requires.0, c.requires.1)),
-
 )
 
 pub returns : goal.returns

@@ -1,7 +1,6 @@
 -- By the kind of the record, where it is the node's own.
 use mathlib.Core.Path.{sym, ap, ◌∙◌}
 use native.Mathlib.Omega.{arith}
-use borrow.Author.Tests.{not-false}
 use Rattle.record.specs.declared.named.ApplyEffect.TheVariants.{Took}
 use Rattle.record.specs.Records.{TraceRecord}
 use Rattle.rules.specs.History.{is_by}

@@ -43,7 +43,6 @@ pub restated_by-requires : goal.restated_by-requires
 restated_by-requires c = (
   c.requires.0.work_holds,
   (omega (arith, c.requires.0), c.requires.0.small),
-
 )
 
 pub returns : goal.returns

@@ -35,7 +35,6 @@ pub mark_at-requires : goal.mark_at-requires
 mark_at-requires c = (
   c.requires.0.work_holds,
   (omega (arith, c.requires.0, c.loop-i.invariant.0), c.requires.0.small),
-
 )
 
 pub is_asked_of-requires : goal.is_asked_of-requires
@@ -65,7 +64,6 @@ pub hold_below-i-requires : goal.hold_below-i-requires
 hold_below-i-requires c = (
   c.requires.0.work_holds,
   (omega (arith, c.requires.0, c.loop-i.invariant.0), c.requires.0.small),
-
 )
 
 pub loop-i-smaller : goal.loop-i-smaller

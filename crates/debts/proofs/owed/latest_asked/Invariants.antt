@@ -1,6 +1,6 @@
 -- The walk along the chain of node and range leaves out no record that is looked for.
 use Rattle.history.specs.Buckets.{bucket_by_two}
-use Prim.Native.Nat.{◌≤◌, ◌-◌}
+use Prim.Native.Nat.{◌≤◌}
 use Rattle.history.specs.Logs.{hist}
 use Rattle.one_owner_per_key.specs.Columns.{by_hold}
 use Rattle.one_owner_per_key.proofs.Walks.{Walking}
@@ -11,7 +11,7 @@ use Rattle.debts.proofs.owed.latest_asked.Given as goal
 abbrev pub invariant-loop-i : goal.invariant-loop-i
 invariant-loop-i l =
     (l.i ≤ l.count) × (Known l.cap (hist l.log l.count) l.work
-        → Walking (asks l.asked l.node.0 l.range) (by_hold l.cap) (bucket_by_two l.cap l.node.0 l.range) l.log l.top l.i)
+    → Walking (asks l.asked l.node.0 l.range) (by_hold l.cap) (bucket_by_two l.cap l.node.0 l.range) l.log l.top l.i)
 
 abbrev pub decreases-loop-i : goal.decreases-loop-i
 decreases-loop-i l = l.i

@@ -35,14 +35,12 @@ pub mark_at-requires : goal.mark_at-requires
 mark_at-requires c = (
   c.requires.0.work_holds,
   (omega (arith, c.requires.0, c.loop-i.invariant.0), c.requires.0.small),
-
 )
 
 pub server_at-requires : goal.server_at-requires
 server_at-requires c = (
   c.requires.0.work_holds,
   (omega (arith, c.requires.0, c.loop-i.invariant.0), c.requires.0.small),
-
 )
 
 pub is_coming-requires : goal.is_coming-requires
@@ -51,7 +49,6 @@ is_coming-requires c = (
       (c.loop-i.i - 1)
       (omega (arith, c.requires.0, c.loop-i.invariant.0))),
   c.requires.1,
-
 )
 
 pub returns-then-is_coming : goal.returns-then-is_coming
@@ -74,7 +71,6 @@ pub hold_below-i-requires : goal.hold_below-i-requires
 hold_below-i-requires c = (
   c.requires.0.work_holds,
   (omega (arith, c.requires.0, c.loop-i.invariant.0), c.requires.0.small),
-
 )
 
 pub loop-i-smaller : goal.loop-i-smaller

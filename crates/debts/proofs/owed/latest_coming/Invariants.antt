@@ -1,6 +1,6 @@
 -- The walk along the chain of node and range leaves out no record at which the node comes to owe.
 use Rattle.history.specs.Buckets.{bucket_by_two}
-use Prim.Native.Nat.{◌≤◌, ◌-◌}
+use Prim.Native.Nat.{◌≤◌}
 use Rattle.record.specs.Records.{decode}
 use Rattle.history.specs.Logs.{hist}
 use Rattle.one_owner_per_key.specs.Columns.{by_hold}

@@ -1,7 +1,7 @@
 -- The latest coming after the registering and the latest cancel; else the registering itself, where it is later than the cancel.
 use mathlib.Core.Path.{ap, ◌∙◌}
 use native.Mathlib.Omega.{arith}
-use mathlib.Core.Logic.{inl, inr, ⊎_elim}
+use mathlib.Core.Logic.{inl, inr}
 use Prim.Native.Nat.{ℕ}
 use Rattle.record.specs.Records.{TraceRecord, decode}
 use Rattle.history.specs.Logs.{hist}
@@ -32,7 +32,6 @@ latest_coming-requires c = (
   record_length c.args.log.now
       c.args.t c.record_at-split.ensures
       (omega (arith, c.requires.0)),
-
 )
 
 pub returns-then-latest_coming-ne0 : goal.returns-then-latest_coming-ne0
@@ -41,8 +40,11 @@ returns-then-latest_coming-ne0 c =
     let f = c.if-cancel-t.floor in
     let y = c.record_at-split.result.now in
     λ ix. owes_coming a.log.now a.count a.node.0 a.t a.cancel
-    (floor_is _ _ _ (elim c.if-cancel-t.branch [ then-cancel-t w ↦ inl (w.if-cancel-t.true, w.floor-is) | else-cancel-t w ↦ inr
-        (w.if-cancel-t.false, w.floor-is) ])) (c.latest_coming.ensures ix
+    (floor_is _ _ _ (elim c.if-cancel-t.branch [
+      | then-cancel-t w ↦ inl (w.if-cancel-t.true, w.floor-is)
+      | else-cancel-t w ↦ inr
+          (w.if-cancel-t.false, w.floor-is)
+    ])) (c.latest_coming.ensures ix
     ∙ ap (λ (m : ℕ). above f (latest_number (comes a.node.0 m c.b-index.result (decode y).voters)
     (hist a.log.now a.count))) c.parent_of-parent.ensures
     ∙ ap (λ (m : ℕ). above f (latest_number (comes a.node.0 (parent_by (decode y)) m (decode y).voters) (hist a.log.now a.count)))
@@ -56,8 +58,11 @@ returns-then-t-cancel c =
     let f = c.if-cancel-t.floor in
     let y = c.record_at-split.result.now in
     λ ix. owes_cancelled a.log.now a.count a.node.0 a.t a.cancel
-    (floor_is _ _ _ (elim c.if-cancel-t.branch [ then-cancel-t w ↦ inl (w.if-cancel-t.true, w.floor-is) | else-cancel-t w ↦ inr
-        (w.if-cancel-t.false, w.floor-is) ]))
+    (floor_is _ _ _ (elim c.if-cancel-t.branch [
+      | then-cancel-t w ↦ inl (w.if-cancel-t.true, w.floor-is)
+      | else-cancel-t w ↦ inr
+          (w.if-cancel-t.false, w.floor-is)
+    ]))
     (c.latest_coming.ensures ix
     ∙ ap (λ (m : ℕ). above f (latest_number (comes a.node.0 m c.b-index.result (decode y).voters)
     (hist a.log.now a.count))) c.parent_of-parent.ensures
@@ -77,7 +82,6 @@ owes_first-requires c = (
         c.record_at-split.ensures
         (omega (arith, c.requires.0)),
   ),
-
 )
 
 pub returns : goal.returns
@@ -86,8 +90,11 @@ returns c =
     let f = c.if-cancel-t.floor in
     let y = c.record_at-split.result.now in
     λ ix. owes_at_first a.log.now a.count a.node.0 a.t a.cancel
-    (floor_is _ _ _ (elim c.if-cancel-t.branch [ then-cancel-t w ↦ inl (w.if-cancel-t.true, w.floor-is) | else-cancel-t w ↦ inr
-        (w.if-cancel-t.false, w.floor-is) ]))
+    (floor_is _ _ _ (elim c.if-cancel-t.branch [
+      | then-cancel-t w ↦ inl (w.if-cancel-t.true, w.floor-is)
+      | else-cancel-t w ↦ inr
+          (w.if-cancel-t.false, w.floor-is)
+    ]))
     (c.latest_coming.ensures ix
     ∙ ap (λ (m : ℕ). above f (latest_number (comes a.node.0 m c.b-index.result (decode y).voters)
     (hist a.log.now a.count))) c.parent_of-parent.ensures

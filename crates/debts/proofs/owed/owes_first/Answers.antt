@@ -23,14 +23,12 @@ pub is_applied_first-requires : goal.is_applied_first-requires
 is_applied_first-requires c = (
   c.requires.0,
   (c.requires.1.0, (c.latest_of-last.ensures.within, c.requires.1.1)),
-
 )
 
 pub server_by-requires : goal.server_by-requires
 server_by-requires c = (
   c.requires.0.work_holds,
   (omega (arith, c.latest_of-last.ensures.within, c.requires.0, c.requires.1.0), c.requires.0.small),
-
 )
 
 pub is_voter-requires : goal.is_voter-requires

@@ -1,13 +1,12 @@
 -- A walk along the chain of the key's bucket: the records passed over have no write of the key.
 use mathlib.Core.Path.{refl, sym, ◌∙◌}
-use Prim.Native.Nat.{◌-◌}
 use native.Mathlib.Omega.{arith}
 use Rattle.record.specs.Keys.{key_in}
 use Rattle.history.specs.Logs.{hist}
 use Rattle.history.proofs.Logs.{record_length}
 use Rattle.history.proofs.Chains.{stands_first, stands_next}
 use Rattle.firsts.proofs.Grants.{read_at}
-use Rattle.generations_rise.specs.Columns.{bucket_by_key, last_write_at}
+use Rattle.generations_rise.specs.Columns.{last_write_at}
 use Rattle.generations_rise.proofs.KeyWrites.{starts_with, last_skip, last_hit, last_miss, last_end}
 use Rattle.generations_rise.proofs.cells.last_write_at.Goals as goal
 

@@ -1,6 +1,6 @@
 -- The bytes rolled so far, with those to come, give the number.
 use mathlib.Core.Path.{refl, sym, ap}
-use Prim.Native.Nat.{ℕ, ◌-◌}
+use Prim.Native.Nat.{ℕ}
 use native.Mathlib.Omega.{arith}
 use lib.ListN.{drop}
 use Rattle.generations_rise.specs.Columns.{rolled_all}

@@ -1,8 +1,5 @@
 -- `preview`: refused, and nothing is touched; else judged.
-use mathlib.Core.List.{List}
-use Prim.Native.Nat.{ℕ}
 use native.Mathlib.Omega.{arith}
-use Rattle.rules.specs.declared.Opening.{Opening}
 use Rattle.intake.proofs.Takes.{previews_off, previews_on, judge_ready}
 use Rattle.intake.proofs.preview.preview.Goals as goal
 

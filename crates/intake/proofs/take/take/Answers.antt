@@ -1,7 +1,4 @@
 -- `take`: refused, and nothing is touched; else judged and kept.
-use mathlib.Core.List.{List}
-use Prim.Native.Nat.{ℕ}
-use Rattle.rules.specs.declared.Opening.{Opening}
 use Rattle.intake.proofs.Takes.{takes_off, takes_on, keepable}
 use Rattle.intake.proofs.take.take.Goals as goal
 

@@ -11,8 +11,11 @@ pub skip_surpassed-i-requires : goal.skip_surpassed-i-requires
 skip_surpassed-i-requires c = (omega arith, (omega arith, (omega arith, (omega arith, c.requires.1))))
 
 pub loop-i-init : goal.loop-i-init
-loop-i-init c = (omega arith, λ m. (c.skip_surpassed-i.ensures.1 _ (omega arith) (omega arith) m
-    (passed_first (down _ _ m (omega arith) (omega arith) (omega arith) c.name_before.ensures.1))).passed)
+loop-i-init c = (
+  omega arith,
+  λ m. (c.skip_surpassed-i.ensures.1 _ (omega arith) (omega arith) m
+      (passed_first (down _ _ m (omega arith) (omega arith) (omega arith) c.name_before.ensures.1))).passed,
+)
 
 pub record_at-old-requires : goal.record_at-old-requires
 record_at-old-requires c = omega arith
@@ -39,9 +42,12 @@ pub loop-i-smaller : goal.loop-i-smaller
 loop-i-smaller c = omega arith
 
 pub loop-i-preserved : goal.loop-i-preserved
-loop-i-preserved c = (omega arith, λ m. (c.skip_surpassed-i-in-loop-i.ensures.1 _ (omega arith) (omega arith) m
-    (passed_miss (c.loop-i.invariant.1 m) (omega arith) c.record_at-old.ensures c.does_oppose.ensures c.if-does_oppose.false
-    (down _ _ m (omega arith) (omega arith) (omega arith) c.name_before-in-loop-i.ensures.1))).passed)
+loop-i-preserved c = (
+  omega arith,
+  λ m. (c.skip_surpassed-i-in-loop-i.ensures.1 _ (omega arith) (omega arith) m
+      (passed_miss (c.loop-i.invariant.1 m) (omega arith) c.record_at-old.ensures c.does_oppose.ensures c.if-does_oppose.false
+      (down _ _ m (omega arith) (omega arith) (omega arith) c.name_before-in-loop-i.ensures.1))).passed,
+)
 
 pub returns : goal.returns
 returns c = λ m p f. passed_end (c.loop-i.invariant.1 m) (omega arith)

@@ -19,15 +19,21 @@ pub d-requires : goal.d-requires
 d-requires c = record_length _ _ c.record_at-old.ensures (omega arith)
 
 pub returns-then-not-is_surpassed : goal.returns-then-not-is_surpassed
-returns-then-not-is_surpassed c = (omega arith, λ n l k m w. skips_stop (c.loop-i.invariant.1 n l k m w)
-    (omega arith) c.record_at-old.ensures c.b-index.ensures c.d-generation.ensures c.b.ensures c.d.ensures c.is_surpassed.ensures c.if-not-is_surpassed.true)
+returns-then-not-is_surpassed c = (
+  omega arith,
+  λ n l k m w. skips_stop (c.loop-i.invariant.1 n l k m w)
+      (omega arith) c.record_at-old.ensures c.b-index.ensures c.d-generation.ensures c.b.ensures c.d.ensures c.is_surpassed.ensures c.if-not-is_surpassed.true,
+)
 
 pub is_marked-requires : goal.is_marked-requires
 is_marked-requires c = omega arith
 
 pub returns-then-is_marked : goal.returns-then-is_marked
-returns-then-is_marked c = (omega arith, λ n l k m w. skips_marked (c.loop-i.invariant.1 n l k m w)
-    (omega arith) c.record_at-old.ensures c.b-index.ensures c.d-generation.ensures c.b.ensures c.d.ensures c.is_surpassed.ensures c.if-not-is_surpassed.false m (omega arith) k (omega arith) c.is_marked.ensures c.if-is_marked.true)
+returns-then-is_marked c = (
+  omega arith,
+  λ n l k m w. skips_marked (c.loop-i.invariant.1 n l k m w)
+      (omega arith) c.record_at-old.ensures c.b-index.ensures c.d-generation.ensures c.b.ensures c.d.ensures c.is_surpassed.ensures c.if-not-is_surpassed.false m (omega arith) k (omega arith) c.is_marked.ensures c.if-is_marked.true,
+)
 
 pub name_before-i-requires : goal.name_before-i-requires
 name_before-i-requires c = omega arith
@@ -36,8 +42,11 @@ pub loop-i-smaller : goal.loop-i-smaller
 loop-i-smaller c = omega arith
 
 pub loop-i-preserved : goal.loop-i-preserved
-loop-i-preserved c = (omega arith, λ n l k m w. skips_next (c.loop-i.invariant.1 n l k m w)
-    (omega arith) c.record_at-old.ensures c.b-index.ensures c.d-generation.ensures c.b.ensures c.d.ensures c.is_surpassed.ensures c.if-not-is_surpassed.false (down _ _ m (omega arith) k (omega arith) c.name_before-i.ensures.1))
+loop-i-preserved c = (
+  omega arith,
+  λ n l k m w. skips_next (c.loop-i.invariant.1 n l k m w)
+      (omega arith) c.record_at-old.ensures c.b-index.ensures c.d-generation.ensures c.b.ensures c.d.ensures c.is_surpassed.ensures c.if-not-is_surpassed.false (down _ _ m (omega arith) k (omega arith) c.name_before-i.ensures.1),
+)
 
 pub returns : goal.returns
 returns c = (omega arith, λ n l k m w. skips_end (c.loop-i.invariant.1 n l k m w) (omega arith))

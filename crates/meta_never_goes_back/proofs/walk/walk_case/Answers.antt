@@ -11,8 +11,10 @@ pub walk-init : goal.walk-init
 walk-init c = λ m. walked_start c.start_of-start.ensures
 
 pub loop-i-init : goal.loop-i-init
-loop-i-init c = turn_first (omega arith) (omega arith) (record { is = sym c.key_less.ensures
-    ∙ c.if-not-key_less.false }) c.name_before-i.ensures.0 c.name_before-i.ensures.1
+loop-i-init c = turn_first (omega arith) (omega arith) (record {
+  is = sym c.key_less.ensures
+      ∙ c.if-not-key_less.false;
+}) c.name_before-i.ensures.0 c.name_before-i.ensures.1
 
 pub key_case-case-requires : goal.key_case-case-requires
 key_case-case-requires c = (omega (arith, c.loop-i.invariant.known, c.requires.0), c.requires.1)

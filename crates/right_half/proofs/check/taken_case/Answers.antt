@@ -14,7 +14,6 @@ right_of-right-requires c = (
   record_length c.args.log.now
       (c.args.k - 1) c.record_at-found.ensures
       (omega (arith, c.requires.0, c.requires.1.1)),
-
 )
 
 pub is_lowest-requires : goal.is_lowest-requires
@@ -24,7 +23,6 @@ is_lowest-requires c = (
       c.args.log.now (c.args.k - 1)
       c.record_at-found.ensures
       (omega (arith, c.requires.0, c.requires.1.1)),
-
 )
 
 pub returns-then-is_lowest : goal.returns-then-is_lowest

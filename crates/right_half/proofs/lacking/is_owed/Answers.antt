@@ -1,7 +1,6 @@
 -- No registering record from i on makes it owed.
 use mathlib.Core.Path.{sym, ap, ◌∙◌}
 use native.Mathlib.Omega.{arith}
-use mathlib.Core.Logic.{⊎_elim}
 use Prim.Native.Nat.{◌-◌}
 use Rattle.record.specs.Records.{TraceRecord}
 use Rattle.rules.specs.History.{is_kind}
@@ -37,7 +36,6 @@ pub named_by-requires : goal.named_by-requires
 named_by-requires c = (
   c.requires.work_holds,
   (omega (arith, c.requires, c.loop-i.invariant.0), c.requires.small),
-
 )
 
 pub right_of-requires : goal.right_of-requires
@@ -47,7 +45,6 @@ right_of-requires c = (
       c.args.log.now (c.loop-i.i - 1)
       c.record_at.ensures
       (omega (arith, c.requires, c.loop-i.invariant.0)),
-
 )
 
 pub owes_by-requires : goal.owes_by-requires
@@ -55,7 +52,6 @@ owes_by-requires c = (
   c.requires,
   omega
       (arith, c.loop-i.invariant.0),
-
 )
 
 pub returns-then-owes_by : goal.returns-then-owes_by
@@ -81,7 +77,6 @@ pub registering_by-i-requires-in-loop-i : goal.registering_by-i-requires-in-loop
 registering_by-i-requires-in-loop-i c = (
   c.requires.work_holds,
   (omega (arith, c.requires, c.loop-i.invariant.0), c.requires.small),
-
 )
 
 pub loop-i-smaller : goal.loop-i-smaller
@@ -105,9 +100,10 @@ loop-i-preserved c =
           (ap (λ (z : TraceRecord). is_kind 1 z) (sym y) ∙ k)))
           ∙ ap (λ (z : TraceRecord). right_by a.log.now z c.named_by.result) y)
           (λ q. elim c.if-right_of-right.branch [
-            then-right_of-right+else-owes_by w ↦ ap (owes_split a.log.now a.count a.node.0 (l.i - 1)) (sym (c.cancel_of-cancel.ensures ix e))
+            | then-right_of-right+else-owes_by w ↦ ap (owes_split a.log.now a.count a.node.0 (l.i - 1)) (sym (c.cancel_of-cancel.ensures ix e))
                 ∙ sym (w.owes_by.ensures ix) ∙ w.if-owes_by.false
-          | else-right_of-right w ↦ absurd (w.if-right_of-right.false q) ])
+            | else-right_of-right w ↦ absurd (w.if-right_of-right.false q)
+          ])
           (c.registering_by-i-in-loop-i.ensures.1 ∙ registering_read a.log.now ix.1.registered p.within p.small (l.i - 1) (omega (arith, l.invariant.0))),
     )
 

@@ -1,6 +1,6 @@
 -- No registering record from i on makes it owed.
 use mathlib.Core.Path.{◌≡◌}
-use Prim.Native.Nat.{◌≤◌, ◌-◌}
+use Prim.Native.Nat.{◌≤◌}
 use Rattle.history.specs.Logs.{hist}
 use Rattle.splits.specs.Numbers.{refused_number}
 use Rattle.splits.specs.Columns.{Known}
@@ -10,7 +10,7 @@ use Rattle.right_half.proofs.lacking.is_owed.Given as goal
 abbrev pub invariant-loop-i : goal.invariant-loop-i
 invariant-loop-i l =
     (l.i ≤ l.count) × (Known l.cap (hist l.log l.count) l.work → l.refused ≡ refused_number l.node.0 (hist l.log l.count)
-        → Unowed l.log l.count l.node.0 l.right l.i)
+    → Unowed l.log l.count l.node.0 l.right l.i)
 
 abbrev pub decreases-loop-i : goal.decreases-loop-i
 decreases-loop-i l = l.i

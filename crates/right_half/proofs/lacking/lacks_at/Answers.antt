@@ -20,7 +20,6 @@ pub restated_by-restated-requires : goal.restated_by-restated-requires
 restated_by-restated-requires c = (
   c.requires.0.work_holds,
   (omega (arith, c.requires.0, c.latest_of-last.ensures.within), c.requires.0.small),
-
 )
 
 pub returns-then-restated-eq0 : goal.returns-then-restated-eq0
@@ -38,7 +37,6 @@ pub refused_by-refused-requires : goal.refused_by-refused-requires
 refused_by-refused-requires c = (
   c.requires.0.work_holds,
   (omega (arith, c.requires.0, c.latest_of-last.ensures.within), c.requires.0.small),
-
 )
 
 pub is_reached-requires : goal.is_reached-requires
@@ -62,7 +60,6 @@ was_held-requires c = (
   c.requires.0,
   omega
       (arith, c.restated_by-restated.ensures.0, c.latest_of-last.ensures.within),
-
 )
 
 pub returns-then-was_held : goal.returns-then-was_held
@@ -87,7 +84,6 @@ pub server_by-requires : goal.server_by-requires
 server_by-requires c = (
   c.requires.0.work_holds,
   (omega (arith, c.latest_of-last.ensures.within, c.requires.0), c.requires.0.small),
-
 )
 
 pub is_voter-requires : goal.is_voter-requires

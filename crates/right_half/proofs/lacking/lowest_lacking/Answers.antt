@@ -38,14 +38,12 @@ lowered_by-best-requires c = (
         c.args.log.now (c.loop-i.i - 1) c.record_at.ensures
         (omega (arith, c.requires.0, c.loop-i.invariant.0)),
   ),
-
 )
 
 pub recorded_below-i-requires : goal.recorded_below-i-requires
 recorded_below-i-requires c = (
   c.requires.0.work_holds,
   (omega (arith, c.requires.0, c.loop-i.invariant.0), c.requires.0.small),
-
 )
 
 pub loop-i-smaller : goal.loop-i-smaller

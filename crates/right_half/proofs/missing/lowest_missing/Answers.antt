@@ -25,21 +25,18 @@ end_by-ended-requires c = (
         (arith, c.requires.within, c.latest_of-last.ensures.within),
     c.requires.small,
   ),
-
 )
 
 pub refused_by-refused-requires : goal.refused_by-refused-requires
 refused_by-refused-requires c = (
   c.requires.work_holds,
   (omega (arith, c.requires, c.latest_of-last.ensures.within), c.requires.small),
-
 )
 
 pub registering_by-i-requires : goal.registering_by-i-requires
 registering_by-i-requires c = (
   c.requires.work_holds,
   (c.requires.within, c.requires.small),
-
 )
 
 pub loop-i-init : goal.loop-i-init
@@ -61,7 +58,6 @@ pub named_by-requires : goal.named_by-requires
 named_by-requires c = (
   c.requires.work_holds,
   (omega (arith, c.requires, c.loop-i.invariant.0), c.requires.small),
-
 )
 
 pub right_of-right-requires : goal.right_of-right-requires
@@ -71,7 +67,6 @@ right_of-right-requires c = (
       c.args.log.now (c.loop-i.i - 1)
       c.record_at.ensures
       (omega (arith, c.requires, c.loop-i.invariant.0)),
-
 )
 
 pub lowered-best-requires : goal.lowered-best-requires
@@ -79,14 +74,12 @@ lowered-best-requires c = (
   c.requires,
   omega
       (arith, c.loop-i.invariant.0),
-
 )
 
 pub registering_by-i-requires-in-loop-i : goal.registering_by-i-requires-in-loop-i
 registering_by-i-requires-in-loop-i c = (
   c.requires.work_holds,
   (omega (arith, c.requires, c.loop-i.invariant.0), c.requires.small),
-
 )
 
 pub loop-i-smaller : goal.loop-i-smaller

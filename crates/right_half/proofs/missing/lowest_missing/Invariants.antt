@@ -1,5 +1,5 @@
 -- All registering records from i on are taken over.
-use Prim.Native.Nat.{◌≤◌, ◌-◌}
+use Prim.Native.Nat.{◌≤◌}
 use Rattle.history.specs.Logs.{hist}
 use Rattle.splits.specs.Columns.{Known}
 use Rattle.right_half.specs.Answers.{found_in}

@@ -36,14 +36,12 @@ registered_with-requires-2 c = (
     c.requires.0.small,
     (c.requires.1.0, c.registers-named.ensures.within),
   ),
-
 )
 
 pub records_with-requires : goal.records_with-requires
 records_with-requires c = (
   c.requires.0.work_holds,
   (omega (arith, c.latest_of-last.ensures.within, c.requires.0), (c.requires.0.small, c.requires.1.1)),
-
 )
 
 pub returns : goal.returns

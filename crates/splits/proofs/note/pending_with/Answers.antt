@@ -38,7 +38,6 @@ uses_up-requires c = (
   rw c.record_at.ensures
       (bytes_length c.args.log.now (c.pending_by-k.result - 1)
       (omega (arith, c.requires.0, c.pending_by-k.ensures.0))),
-
 )
 
 pub returns-then-uses_up : goal.returns-then-uses_up

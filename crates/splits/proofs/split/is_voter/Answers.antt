@@ -1,7 +1,6 @@
 -- The voters before i are not the server.
 use mathlib.Core.Path.{refl}
 use native.Mathlib.Omega.{arith}
-use Prim.Native.Nat.{◌-◌}
 use lib.Dec.{eqb}
 use borrow.Author.Tests.{eq-eqb, ne_eqb}
 use Rattle.rules.proofs.Voters.{any_found, any_next, any_end}
@@ -30,7 +29,6 @@ loop-i-preserved c = (
       c.loop-i.i c.loop-i.invariant.1
       (rw (← c.voter_count-n.ensures.0) c.loop-i-test.true)
       (rw (← c.voter.ensures) (ne_eqb _ _ c.if-voter-server.false)),
-
 )
 
 pub returns : goal.returns

@@ -14,8 +14,8 @@ returns-then-is_created c =
     record {
       within = omega arith;
       names = λ ix node e. names_itself c.args.log.now
-      (decode c.args.rec.now) c.args.count node
-      c.is_created.ensures c.if-is_created.true;
+          (decode c.args.rec.now) c.args.count node
+          c.is_created.ensures c.if-is_created.true;
     }
 
 pub returns-then-k-eq0 : goal.returns-then-k-eq0
@@ -38,7 +38,6 @@ uses_up-requires c = (
   rw c.record_at.ensures
       (bytes_length c.args.log.now (c.pending_by-k.result - 1)
       (omega (arith, c.requires.0, c.pending_by-k.ensures.0))),
-
 )
 
 pub returns-then-uses_up : goal.returns-then-uses_up

@@ -10,8 +10,8 @@ returns-then-named-eq0 c =
     record {
       within = omega arith;
       names = λ ix node m e. registers_none c.args.log.now
-      (decode c.args.rec.now) c.args.count node m
-      (c.names-named.ensures.names ix node.0 e) c.if-named-eq0.true;
+          (decode c.args.rec.now) c.args.count node m
+          (c.names-named.ensures.names ix node.0 e) c.if-named-eq0.true;
     }
 
 pub returns-then-split_of-ne0 : goal.returns-then-split_of-ne0

@@ -49,7 +49,6 @@ pub split_below-i-requires : goal.split_below-i-requires
 split_below-i-requires c = (
   c.requires.0.work_holds,
   (omega (arith, c.requires.0), c.requires.0.small),
-
 )
 
 pub loop-i-smaller : goal.loop-i-smaller

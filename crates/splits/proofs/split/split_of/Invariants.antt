@@ -1,5 +1,5 @@
 -- The walk along the chain of parent and index leaves out no record that registers that split.
-use Prim.Native.Nat.{◌≤◌, ◌-◌}
+use Prim.Native.Nat.{◌≤◌}
 use Rattle.history.specs.Logs.{hist}
 use Rattle.one_owner_per_key.proofs.Walks.{Walking}
 use Rattle.splits.specs.Numbers.{registers_as}
@@ -9,7 +9,7 @@ use Rattle.splits.proofs.split.split_of.Given as goal
 abbrev pub invariant-loop-i : goal.invariant-loop-i
 invariant-loop-i l =
     (l.i ≤ l.count) × (Known l.cap (hist l.log l.count) l.work
-        → Walking (registers_as l.parent l.index) (by_split l.cap) (split_bucket l.cap l.parent l.index) l.log l.top l.i)
+    → Walking (registers_as l.parent l.index) (by_split l.cap) (split_bucket l.cap l.parent l.index) l.log l.top l.i)
 
 abbrev pub decreases-loop-i : goal.decreases-loop-i
 decreases-loop-i l = l.i
