@@ -5,5 +5,5 @@ use Rattle.tally.proofs.enter.Goals as goal
 pub returns : goal.returns
 returns c =
     let a = c.args in
-    let f = c.fits2.ensures in
+    let f = c.fits-fit.ensures in
     enters a.tally.now a.judge _ c.find_places.ensures f.0 f.1 c.enter_places-refusal.ensures

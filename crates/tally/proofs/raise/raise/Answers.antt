@@ -14,7 +14,7 @@ pub raise_at-requires : goal.raise_at-requires
 unfolding room_to
 raise_at-requires c =
     let a = c.args in
-    let bytes : Bytes a.tally.now = record { below = λ i. (c.type_inv.tally i).fits } in
+    let bytes : Bytes a.tally.now = record { below = λ i. (c.slice_known-1.given i).fits } in
     let is = c.raise_checks.ensures in
     let step = traces_step a.places.now a.count a.tally.now bytes in
     let n = ap length is ∙ stored_length width _ tally_places in
@@ -24,7 +24,7 @@ pub raise_at-requires-2 : goal.raise_at-requires-2
 unfolding room_to
 raise_at-requires-2 c =
     let a = c.args in
-    let bytes : Bytes a.tally.now = record { below = λ i. (c.type_inv.tally i).fits } in
+    let bytes : Bytes a.tally.now = record { below = λ i. (c.slice_known-1.given i).fits } in
     let room = c.requires.2 in
     let first = traces_step a.places.now a.count a.tally.now bytes in
     let is = c.raise_at.ensures
@@ -37,7 +37,7 @@ pub returns : goal.returns
 unfolding room_to
 returns c =
     let a = c.args in
-    let bytes : Bytes a.tally.now = record { below = λ i. (c.type_inv.tally i).fits } in
+    let bytes : Bytes a.tally.now = record { below = λ i. (c.slice_known-1.given i).fits } in
     let room = c.requires.2 in
     let first = traces_step a.places.now a.count a.tally.now bytes in
     let second = taken_step a.places.now a.count a.tally.now bytes in

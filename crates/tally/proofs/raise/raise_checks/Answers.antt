@@ -16,7 +16,7 @@ use Rattle.tally.proofs.raise.raise_checks.Goals as goal
 pub loop-k-init : goal.loop-k-init
 loop-k-init c =
     let a = c.args in
-    let bytes : Bytes a.tally.now = record { below = λ i. (c.type_inv.tally i).fits } in
+    let bytes : Bytes a.tally.now = record { below = λ i. (c.slice_known-1.given i).fits } in
     (omega arith, raised_none a.places.now a.count a.tally.now bytes c.requires.0)
 
 pub bounds-places-k : goal.bounds-places-k
@@ -35,7 +35,7 @@ raise_at-requires c =
     let pre = c.requires in
     let l = c.loop-k in
     let taken : l.k < check_count = c.loop-k-test.true in
-    let bytes : Bytes a.tally.now = record { below = λ i. (c.type_inv.tally i).fits } in
+    let bytes : Bytes a.tally.now = record { below = λ i. (c.slice_known-1.given i).fits } in
     let step = check_step a.places.now a.count a.tally.now bytes l.k taken pre.1 in
     let p = pre.1.each l.k taken in
     let n : length l.tally ≡ width * tally_places = ap length l.invariant.1 ∙ stored_length width _ tally_places in
@@ -48,7 +48,7 @@ loop-k-preserved c =
     let pre = c.requires in
     let l = c.loop-k in
     let taken : l.k < check_count = c.loop-k-test.true in
-    let bytes : Bytes a.tally.now = record { below = λ i. (c.type_inv.tally i).fits } in
+    let bytes : Bytes a.tally.now = record { below = λ i. (c.slice_known-1.given i).fits } in
     let step = check_step a.places.now a.count a.tally.now bytes l.k taken pre.1 in
     let next = raise_stored a.places.now a.count a.tally.now bytes pre.2 l.tally _ _ _ _ l.invariant.1 step in
     (omega arith, c.raise_at.ensures ∙ next)
