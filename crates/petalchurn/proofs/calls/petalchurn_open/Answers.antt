@@ -10,5 +10,5 @@ returns-then-state-ne-STATE_WORDS c =
 pub returns : goal.returns
 returns c =
     let a = c.args in
-    open_done (record { tenant = a.tenant }) a.log.now a.work.now a.state.now c.«open».result c.if-state-ne-STATE_WORDS.false c.«open».ensures
+    open_done (record { tenant = a.tenant }) a.log.now a.work.now a.state.now c.open-opened.result c.if-state-ne-STATE_WORDS.false c.open-opened.ensures
     c.write_state.ensures c.number_of.ensures

@@ -43,7 +43,9 @@ returns-then-refusal-ne0 c =
 -- where nothing is refused: there was room, and the words with the rows that the core left are as many as before
 pub overflow_add-state : goal.overflow_add-state
 overflow_add-state c =
-    let r = room_of (sym c.take-refusal.ensures.refusal ∙ c.if-refusal-ne0.false) in
+    let a = c.args in
+    let r : Room (get_or a.state.now 0 0) (get_or a.state.now 1 0) a.log.now a.work.now a.rec.now =
+        room_of (sym c.take-refusal.ensures.refusal ∙ c.if-refusal-ne0.false) in
     next_fits (get_or c.args.state.now 1 0) (get_or c.args.state.now 0 0) r.room r.suits.small
 
 pub bounds-state-1-2 : goal.bounds-state-1-2
@@ -54,7 +56,11 @@ bounds-state-1-2 c =
     omega (arith, e)
 
 pub event_after-requires : goal.event_after-requires
-event_after-requires c = (room_of (sym c.take-refusal.ensures.refusal ∙ c.if-refusal-ne0.false)).size
+event_after-requires c =
+    let a = c.args in
+    let r : Room (get_or a.state.now 0 0) (get_or a.state.now 1 0) a.log.now a.work.now a.rec.now =
+        room_of (sym c.take-refusal.ensures.refusal ∙ c.if-refusal-ne0.false) in
+    r.size
 
 pub bounds-state-2-2 : goal.bounds-state-2-2
 bounds-state-2-2 c =

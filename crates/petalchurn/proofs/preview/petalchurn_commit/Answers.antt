@@ -29,7 +29,7 @@ returns-then-not-suits c =
 
 pub returns-then-not-is_current : goal.returns-then-not-is_current
 unfolding judge_in
-returns-then-not-is_c.if-not-is_current.false =
+returns-then-not-is_current c =
     let a = c.args in
     commit_stale a.state.now a.log.now a.work.now a.ticket.now (sym c.is_state.ensures ∙ c.if-not-is_state.false)
     (sym c.suits.ensures ∙ c.if-not-suits.false)
