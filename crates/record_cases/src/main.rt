@@ -3,35 +3,33 @@
 #![tactic(auto)]
 
 use form::{form_of, number_of};
-use libc::STDOUT_FILENO;
+use std::io;
 
-fn write(text: &[u8]) {
-    io::write_all(STDOUT_FILENO, text);
+fn write(rt: &impl Print, text: &[u8]) -> io::Result<()> {
+    rt.write_all(text)
 }
 
 // The refusal of some bytes, and of a record.
-fn refusal(bytes: &[u8]) {
-    let n = number_of(form_of(bytes)) as u64;
-    write(b" ");
-    io::print_decimal(STDOUT_FILENO, n);
+fn refusal(rt: &impl Print, bytes: &[u8]) -> io::Result<()> {
+    let n = number_of(form_of(bytes));
+    print!(rt; " {n}")
 }
 
-fn tell(rec: [u8; 368]) {
-    refusal(&rec);
+fn tell(rt: &impl Print, rec: [u8; 368]) -> io::Result<()> {
+    refusal(rt, &rec)
 }
 
 // A case on a line of its own.
-fn show(name: &[u8], rec: [u8; 368]) {
-    write(name);
-    tell(rec);
-    write(b"\n");
+fn show(rt: &impl Print, name: &[u8], rec: [u8; 368]) -> io::Result<()> {
+    write(rt, name)?;
+    tell(rt, rec)?;
+    write(rt, b"\n")
 }
 
 // The start of a line of cases of one kind.
-fn head(kind: u8, what: &[u8]) {
-    write(b"kind ");
-    io::print_decimal(STDOUT_FILENO, kind as u64);
-    write(what);
+fn head(rt: &impl Print, kind: u8, what: &[u8]) -> io::Result<()> {
+    print!(rt; "kind {kind}")?;
+    write(rt, what)
 }
 
 // The record with one byte changed.
@@ -101,229 +99,235 @@ fn full(kind: u8) -> [u8; 368] {
 }
 
 // A kind's values: those of its sub-code, flag and counts at and beside their bounds.
-fn codes(kind: u8) {
-    head(kind, b" sub-codes 0 1 3 4 7 8 255:");
+fn codes(rt: &impl Print, kind: u8) -> io::Result<()> {
+    head(rt, kind, b" sub-codes 0 1 3 4 7 8 255:")?;
     let rec = bare(kind);
-    tell(with(rec, 2, 0));
-    tell(with(rec, 2, 1));
-    tell(with(rec, 2, 3));
-    tell(with(rec, 2, 4));
-    tell(with(rec, 2, 7));
-    tell(with(rec, 2, 8));
-    tell(with(rec, 2, 255));
-    write(b"\n");
+    tell(rt, with(rec, 2, 0))?;
+    tell(rt, with(rec, 2, 1))?;
+    tell(rt, with(rec, 2, 3))?;
+    tell(rt, with(rec, 2, 4))?;
+    tell(rt, with(rec, 2, 7))?;
+    tell(rt, with(rec, 2, 8))?;
+    tell(rt, with(rec, 2, 255))?;
+    write(rt, b"\n")
 }
 
-fn flags(kind: u8) {
-    head(kind, b" flags 0 1 2 255:");
+fn flags(rt: &impl Print, kind: u8) -> io::Result<()> {
+    head(rt, kind, b" flags 0 1 2 255:")?;
     let rec = bare(kind);
-    tell(with(rec, 3, 0));
-    tell(with(rec, 3, 1));
-    tell(with(rec, 3, 2));
-    tell(with(rec, 3, 255));
-    write(b"\n");
+    tell(rt, with(rec, 3, 0))?;
+    tell(rt, with(rec, 3, 1))?;
+    tell(rt, with(rec, 3, 2))?;
+    tell(rt, with(rec, 3, 255))?;
+    write(rt, b"\n")
 }
 
-fn voters(kind: u8) {
-    head(kind, b" voters 0 1 5 6 7 8 255:");
+fn voters(rt: &impl Print, kind: u8) -> io::Result<()> {
+    head(rt, kind, b" voters 0 1 5 6 7 8 255:")?;
     let rec = bare(kind);
-    tell(with(rec, 48, 0));
-    tell(with(rec, 48, 1));
-    tell(with(rec, 48, 5));
-    tell(with(rec, 48, 6));
-    tell(with(rec, 48, 7));
-    tell(with(rec, 48, 8));
-    tell(with(rec, 48, 255));
-    write(b"\n");
+    tell(rt, with(rec, 48, 0))?;
+    tell(rt, with(rec, 48, 1))?;
+    tell(rt, with(rec, 48, 5))?;
+    tell(rt, with(rec, 48, 6))?;
+    tell(rt, with(rec, 48, 7))?;
+    tell(rt, with(rec, 48, 8))?;
+    tell(rt, with(rec, 48, 255))?;
+    write(rt, b"\n")
 }
 
-fn spans(kind: u8) {
-    head(kind, b" spans 0 1 2 3 4 5 255:");
+fn spans(rt: &impl Print, kind: u8) -> io::Result<()> {
+    head(rt, kind, b" spans 0 1 2 3 4 5 255:")?;
     let rec = bare(kind);
-    tell(with(rec, 49, 0));
-    tell(with(rec, 49, 1));
-    tell(with(rec, 49, 2));
-    tell(with(rec, 49, 3));
-    tell(with(rec, 49, 4));
-    tell(with(rec, 49, 5));
-    tell(with(rec, 49, 255));
-    write(b"\n");
+    tell(rt, with(rec, 49, 0))?;
+    tell(rt, with(rec, 49, 1))?;
+    tell(rt, with(rec, 49, 2))?;
+    tell(rt, with(rec, 49, 3))?;
+    tell(rt, with(rec, 49, 4))?;
+    tell(rt, with(rec, 49, 5))?;
+    tell(rt, with(rec, 49, 255))?;
+    write(rt, b"\n")
 }
 
 // A kind's numbers, by their first and by their last bytes.
-fn numbers(kind: u8) {
+fn numbers(rt: &impl Print, kind: u8) -> io::Result<()> {
     let rec = bare(kind);
-    head(kind, b" first bytes of A to E:");
-    tell(with(rec, 8, 1));
-    tell(with(rec, 16, 1));
-    tell(with(rec, 24, 1));
-    tell(with(rec, 32, 1));
-    tell(with(rec, 40, 1));
-    write(b"\n");
-    head(kind, b" last bytes of A to E:");
-    tell(with(rec, 15, 1));
-    tell(with(rec, 23, 1));
-    tell(with(rec, 31, 1));
-    tell(with(rec, 39, 1));
-    tell(with(rec, 47, 1));
-    write(b"\n");
+    head(rt, kind, b" first bytes of A to E:")?;
+    tell(rt, with(rec, 8, 1))?;
+    tell(rt, with(rec, 16, 1))?;
+    tell(rt, with(rec, 24, 1))?;
+    tell(rt, with(rec, 32, 1))?;
+    tell(rt, with(rec, 40, 1))?;
+    write(rt, b"\n")?;
+    head(rt, kind, b" last bytes of A to E:")?;
+    tell(rt, with(rec, 15, 1))?;
+    tell(rt, with(rec, 23, 1))?;
+    tell(rt, with(rec, 31, 1))?;
+    tell(rt, with(rec, 39, 1))?;
+    tell(rt, with(rec, 47, 1))?;
+    write(rt, b"\n")
 }
 
-fn of_kind(kind: u8) {
-    head(kind, b" bare and full:");
-    tell(bare(kind));
-    tell(full(kind));
-    write(b"\n");
-    codes(kind);
-    flags(kind);
-    voters(kind);
-    spans(kind);
-    numbers(kind);
+fn of_kind(rt: &impl Print, kind: u8) -> io::Result<()> {
+    head(rt, kind, b" bare and full:")?;
+    tell(rt, bare(kind))?;
+    tell(rt, full(kind))?;
+    write(rt, b"\n")?;
+    codes(rt, kind)?;
+    flags(rt, kind)?;
+    voters(rt, kind)?;
+    spans(rt, kind)?;
+    numbers(rt, kind)
 }
 
-fn of_kinds() {
-    of_kind(1);
-    of_kind(2);
-    of_kind(3);
-    of_kind(4);
-    of_kind(5);
-    of_kind(6);
-    of_kind(7);
-    of_kind(8);
-    of_kind(9);
-    of_kind(10);
-    of_kind(11);
-    of_kind(12);
+fn of_kinds(rt: &impl Print) -> io::Result<()> {
+    of_kind(rt, 1)?;
+    of_kind(rt, 2)?;
+    of_kind(rt, 3)?;
+    of_kind(rt, 4)?;
+    of_kind(rt, 5)?;
+    of_kind(rt, 6)?;
+    of_kind(rt, 7)?;
+    of_kind(rt, 8)?;
+    of_kind(rt, 9)?;
+    of_kind(rt, 10)?;
+    of_kind(rt, 11)?;
+    of_kind(rt, 12)
 }
 
 // Lengths, on a record that is sound but for its length, and numbers that no kind has.
-fn lengths() {
+fn lengths(rt: &impl Print) -> io::Result<()> {
     let mut long = [0u8; 369];
     long[0] = 5;
-    write(b"lengths 0 367 368 369:");
-    refusal(&long[..0]);
-    refusal(&long[..367]);
-    refusal(&long[..368]);
-    refusal(&long);
-    write(b"\n");
-    write(b"kinds 0 13 255:");
-    tell(bare(0));
-    tell(bare(13));
-    tell(bare(255));
-    write(b"\n");
+    write(rt, b"lengths 0 367 368 369:")?;
+    refusal(rt, &long[..0])?;
+    refusal(rt, &long[..367])?;
+    refusal(rt, &long[..368])?;
+    refusal(rt, &long)?;
+    write(rt, b"\n")?;
+    write(rt, b"kinds 0 13 255:")?;
+    tell(rt, bare(0))?;
+    tell(rt, bare(13))?;
+    tell(rt, bare(255))?;
+    write(rt, b"\n")
 }
 
-fn nodes() {
-    show(b"mark 2", with(bare(5), 1, 2));
-    show(b"mark 255", with(bare(5), 1, 255));
-    show(b"unmarked node, first byte", with(bare(5), 4, 1));
-    show(b"unmarked node, last byte", with(bare(5), 7, 1));
-    show(b"marked node", ends(with(bare(5), 1, 1), 4, 7));
+fn nodes(rt: &impl Print) -> io::Result<()> {
+    show(rt, b"mark 2", with(bare(5), 1, 2))?;
+    show(rt, b"mark 255", with(bare(5), 1, 255))?;
+    show(rt, b"unmarked node, first byte", with(bare(5), 4, 1))?;
+    show(rt, b"unmarked node, last byte", with(bare(5), 7, 1))?;
+    show(rt, b"marked node", ends(with(bare(5), 1, 1), 4, 7))
 }
 
-fn parents() {
-    show(b"parent without the flag", with(full(1), 3, 0));
-    show(b"the flag without a parent", with(bare(1), 3, 1));
+fn parents(rt: &impl Print) -> io::Result<()> {
+    show(rt, b"parent without the flag", with(full(1), 3, 0))?;
+    show(rt, b"the flag without a parent", with(bare(1), 3, 1))
 }
 
-fn zeros() {
-    write(b"bytes 50 to 55:");
-    tell(with(bare(11), 50, 1));
-    tell(with(bare(11), 51, 1));
-    tell(with(bare(11), 52, 1));
-    tell(with(bare(11), 53, 1));
-    tell(with(bare(11), 54, 1));
-    tell(with(bare(11), 55, 1));
-    write(b"\n");
+fn zeros(rt: &impl Print) -> io::Result<()> {
+    write(rt, b"bytes 50 to 55:")?;
+    tell(rt, with(bare(11), 50, 1))?;
+    tell(rt, with(bare(11), 51, 1))?;
+    tell(rt, with(bare(11), 52, 1))?;
+    tell(rt, with(bare(11), 53, 1))?;
+    tell(rt, with(bare(11), 54, 1))?;
+    tell(rt, with(bare(11), 55, 1))?;
+    write(rt, b"\n")
 }
 
 // The last two voter places, with all five voters and with a count that would reach them.
-fn last_places() {
+fn last_places(rt: &impl Print) -> io::Result<()> {
     let five = with(bare(2), 48, 5);
-    show(b"fifth voter's last byte", with(five, 95, 1));
-    show(b"sixth voter of five, first byte", with(five, 96, 1));
-    show(b"seventh voter of five, last byte", with(five, 111, 1));
-    show(b"sixth voter of six", with(with(five, 48, 6), 96, 1));
-    show(b"seventh voter of seven", with(with(five, 48, 7), 111, 1));
+    show(rt, b"fifth voter's last byte", with(five, 95, 1))?;
+    show(rt, b"sixth voter of five, first byte", with(five, 96, 1))?;
+    show(rt, b"seventh voter of five, last byte", with(five, 111, 1))?;
+    show(rt, b"sixth voter of six", with(with(five, 48, 6), 96, 1))?;
+    show(
+        rt,
+        b"seventh voter of seven",
+        with(with(five, 48, 7), 111, 1),
+    )
 }
 
 // Voters and spans at and past their counts.
-fn past_counts() {
+fn past_counts(rt: &impl Print) -> io::Result<()> {
     let two = with(bare(2), 48, 2);
-    show(b"second voter's last byte", with(two, 71, 1));
-    show(b"third voter of two, first byte", with(two, 72, 1));
-    show(b"seventh voter of two, last byte", with(two, 111, 1));
-    last_places();
-    show(b"voter of none", with(bare(5), 56, 1));
-    show(b"second span of one, first byte", with(bare(2), 176, 1));
-    show(b"fourth span of one, last byte", with(bare(2), 367, 1));
+    show(rt, b"second voter's last byte", with(two, 71, 1))?;
+    show(rt, b"third voter of two, first byte", with(two, 72, 1))?;
+    show(rt, b"seventh voter of two, last byte", with(two, 111, 1))?;
+    last_places(rt)?;
+    show(rt, b"voter of none", with(bare(5), 56, 1))?;
+    show(rt, b"second span of one, first byte", with(bare(2), 176, 1))?;
+    show(rt, b"fourth span of one, last byte", with(bare(2), 367, 1))?;
     show(
+        rt,
         b"fourth span of three, first byte",
         with(with(bare(8), 49, 3), 304, 1),
-    );
-    show(b"span of none", with(bare(8), 112, 1));
+    )?;
+    show(rt, b"span of none", with(bare(8), 112, 1))
 }
 
 // Lengths of the first and the last key, and of an end.
-fn key_lengths() {
+fn key_lengths(rt: &impl Print) -> io::Result<()> {
     let four = with(bare(8), 49, 4);
-    write(b"first key's lengths 31 32 255:");
-    tell(with(four, 112, 31));
-    tell(with(four, 112, 32));
-    tell(with(four, 112, 255));
-    write(b"\n");
-    write(b"last key's lengths 31 32 255:");
-    tell(with(four, 336, 31));
-    tell(with(four, 336, 32));
-    tell(with(four, 336, 255));
-    write(b"\n");
+    write(rt, b"first key's lengths 31 32 255:")?;
+    tell(rt, with(four, 112, 31))?;
+    tell(rt, with(four, 112, 32))?;
+    tell(rt, with(four, 112, 255))?;
+    write(rt, b"\n")?;
+    write(rt, b"last key's lengths 31 32 255:")?;
+    tell(rt, with(four, 336, 31))?;
+    tell(rt, with(four, 336, 32))?;
+    tell(rt, with(four, 336, 255))?;
+    write(rt, b"\n")
 }
 
 // Padding after a start of five bytes and after an end of thirty.
-fn padding() {
+fn padding(rt: &impl Print) -> io::Result<()> {
     let rec = with(with(bare(1), 112, 5), 144, 30);
-    show(b"start's last byte", with(rec, 117, 1));
-    show(b"start's first padding byte", with(rec, 118, 1));
-    show(b"start's last padding byte", with(rec, 143, 1));
-    show(b"end's last byte", with(rec, 174, 1));
-    show(b"end's one padding byte", with(rec, 175, 1));
-    show(b"empty key's first padding byte", with(bare(1), 113, 1));
+    show(rt, b"start's last byte", with(rec, 117, 1))?;
+    show(rt, b"start's first padding byte", with(rec, 118, 1))?;
+    show(rt, b"start's last padding byte", with(rec, 143, 1))?;
+    show(rt, b"end's last byte", with(rec, 174, 1))?;
+    show(rt, b"end's one padding byte", with(rec, 175, 1))?;
+    show(rt, b"empty key's first padding byte", with(bare(1), 113, 1))
 }
 
 // RaftApply's end, which is empty.
-fn apply_ends() {
+fn apply_ends(rt: &impl Print) -> io::Result<()> {
     let rec = with(bare(3), 49, 1);
-    show(b"apply's key", with(with(rec, 112, 1), 113, 1));
-    show(b"apply's end of length 1", with(rec, 144, 1));
-    show(b"apply's end of length 31", with(rec, 144, 31));
-    show(b"apply's end of length 32", with(rec, 144, 32));
-    show(b"apply's end, second byte", with(rec, 145, 1));
-    show(b"apply's end, last byte", with(rec, 175, 1));
-    show(b"apply's key of no span", with(bare(3), 112, 1));
+    show(rt, b"apply's key", with(with(rec, 112, 1), 113, 1))?;
+    show(rt, b"apply's end of length 1", with(rec, 144, 1))?;
+    show(rt, b"apply's end of length 31", with(rec, 144, 31))?;
+    show(rt, b"apply's end of length 32", with(rec, 144, 32))?;
+    show(rt, b"apply's end, second byte", with(rec, 145, 1))?;
+    show(rt, b"apply's end, last byte", with(rec, 175, 1))?;
+    show(rt, b"apply's key of no span", with(bare(3), 112, 1))
 }
 
 // The refusals come in the order 1, 2, 3, 4.
-fn order() {
+fn order(rt: &impl Print) -> io::Result<()> {
     show(
+        rt,
         b"kind 13, mark 2, byte 50",
         with(with(bare(13), 1, 2), 50, 1),
-    );
-    show(b"mark 2, byte 50", with(with(bare(5), 1, 2), 50, 1));
+    )?;
+    show(rt, b"mark 2, byte 50", with(with(bare(5), 1, 2), 50, 1))?;
     let short = [255u8; 367];
-    write(b"367 bytes of 255");
-    refusal(&short);
-    write(b"\n");
+    write(rt, b"367 bytes of 255")?;
+    refusal(rt, &short)?;
+    write(rt, b"\n")
 }
 
-fn main() {
-    of_kinds();
-    lengths();
-    nodes();
-    parents();
-    zeros();
-    past_counts();
-    key_lengths();
-    padding();
-    apply_ends();
-    order();
+fn main(rt: HostRuntime) -> io::Result<()> {
+    of_kinds(&rt)?;
+    lengths(&rt)?;
+    nodes(&rt)?;
+    parents(&rt)?;
+    zeros(&rt)?;
+    past_counts(&rt)?;
+    key_lengths(&rt)?;
+    padding(&rt)?;
+    apply_ends(&rt)?;
+    order(&rt)
 }
