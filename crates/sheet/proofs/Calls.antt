@@ -5,16 +5,15 @@ use Prim.Native.Nat.{ℕ, ◌-◌, ◌≤◌}
 use native.Mathlib.Omega.{arith}
 use lib.ListN.{length, take, drop, length-take, length-drop}
 use lib.Seq.{length-take-le}
-use Rattle.io.specs.Counts.{IsPrefixLen}
 use Rattle.sheet.specs.declared.input.Input.{Input}
 use Rattle.sheet.specs.declared.input.Input.TheVariants.{Bytes}
 use Rattle.sheet.specs.Calls.{Held}
 
 -- a number within a list counts bytes at its front
-pub counts : (buf : List ℕ) (n : ℕ) → n ≤ length buf → IsPrefixLen n buf
+pub counts : (buf : List ℕ) (n : ℕ) → n ≤ length buf → Held (Bytes n) buf
 counts buf n l = (l, sym (length-take-le n buf l))
 
-pub held_bytes : (buf : List ℕ) {r : Input} {n : ℕ} → r ≡ Bytes n → Held r buf → IsPrefixLen n buf
+pub held_bytes : (buf : List ℕ) {r : Input} {n : ℕ} → r ≡ Bytes n → Held r buf → Held (Bytes n) buf
 held_bytes buf e h = subst (λ (r : Input). Held r buf) e h
 
 -- the bytes read into a part that was lent from a place to the end are no more than the rest

@@ -12,9 +12,11 @@ use crate::input::{Input, read_input};
 use crate::output::{Written, write_output};
 use judge::state::{Judge, number_of};
 use judge::trace::Traced;
-use libc::STDERR_FILENO;
 use rules::Opening;
 use sheet_text::{SHEET_SIZE, sheet};
+use std::env::FillError;
+use std::io::Error;
+use std::rt::Env;
 
 const TENANT: u64 = 0;
 
@@ -56,37 +58,49 @@ fn judged(trace: &[u8], out: &mut [u8]) -> usize
     sheet_of(traced, out)
 }
 
-// Says on standard error that the sheet did not reach standard output, or that only a part of it did.
-fn say_stopped(done: usize) {
-    if done == 0 {
-        os::fail(b"sheet: no line printed, writing to standard output failed");
+// Says on standard error that the sheet did not reach standard output, or that only a part of it did. Where standard error
+// takes nothing either, nobody is left to tell.
+fn say_stopped(rt: &impl Eprint, done: usize, e: Error) {
+    let _ = if done == 0 {
+        eprintln!(rt; "sheet: no line printed, writing to standard output failed: {e}")
     } else {
-        os::fail(b"sheet: only a part printed, writing to standard output failed");
-    }
+        eprintln!(rt; "sheet: only a part printed, writing to standard output failed: {e}")
+    };
 }
 
 // Prints the sheet of a trace.
-fn print_sheet(trace: &[u8]) {
+fn print_sheet(rt: HostRuntime, trace: &[u8]) {
     let mut out = [0u8; SHEET_SIZE];
     let end = judged(trace, &mut out);
-    let written = write_output(&out[..end]);
+    let written = write_output(&mut rt.stdout(), &out[..end]);
     match written {
         Written::All => {}
-        Written::Stopped(done) => say_stopped(done),
+        Written::Stopped(done, e) => say_stopped(&rt, done, e),
+    }
+}
+
+// Whether an argument was given. One that is longer than the buffer was.
+fn has_argument(rt: &impl Env) -> bool {
+    let mut start = [0u8; 1];
+    match rt.arg(1, &mut start) {
+        Err(FillError::NotPresent) => false,
+        _ => true,
     }
 }
 
 // Reads until the input ends or 97 records are there. Where a read failed there is no sheet: what was read may be any
 // beginning of the trace, and its passes would say nothing of the rest.
-fn main() {
-    if 1 < os::arg_count() {
-        io::write_all(STDERR_FILENO, b"usage: sheet < trace\n");
+fn main(rt: HostRuntime) {
+    if has_argument(&rt) {
+        let _ = eprintln!(rt; "usage: sheet < trace");
         return;
     }
     let mut trace = [0u8; TRACE];
-    let input = read_input(&mut trace);
+    let input = read_input(&mut rt.stdin(), &mut trace);
     match input {
-        Input::Bytes(n) => print_sheet(&trace[..n]),
-        Input::Failed => os::fail(b"sheet: no verdict, reading standard input failed"),
+        Input::Bytes(n) => print_sheet(rt, &trace[..n]),
+        Input::Failed(e) => {
+            let _ = eprintln!(rt; "sheet: no verdict, reading standard input failed: {e}");
+        }
     }
 }

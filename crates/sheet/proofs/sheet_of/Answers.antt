@@ -16,5 +16,5 @@ returns c =
     let f : (n : ℕ) → List ℕ = λ n. sheet_text t.judge.reports t.judge.count n t.at in
     record {
       value = c1.sheet.ensures.value ∙ ap (λ (n : ℕ). printed_length (f n) a.out.now) c2.number_of.ensures;
-      out_after = (c1.sheet.ensures.out_after ∙ ap (λ (n : ℕ). printed (f n) a.out.now) c2.number_of.ensures, );
+      out_after = c1.sheet.ensures.out_after ∙ ap (λ (n : ℕ). printed (f n) a.out.now) c2.number_of.ensures;
     }
