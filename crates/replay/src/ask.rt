@@ -3,6 +3,7 @@ use crate::read;
 use crate::refusal::is_nothing;
 use judge::lookup::{Looked, Question};
 use judge::state::Judge;
+use std::io::Read;
 
 // A stored question: which look-up, and its two numbers.
 #[derive(Clone, Copy)]
@@ -115,13 +116,13 @@ fn word_at(out: &[u64], i: usize) -> u64 {
 
 // Whether the stored answer is as many words of the output as are given. It is read to its end even where it is not,
 // since the next question stands behind it.
-fn is_stored(fd: i32, out: &[u64], words: u64) -> bool {
-    let count = read::two(fd);
+fn is_stored<R: Read>(file: &mut R, out: &[u64], words: u64) -> bool {
+    let count = read::two(file);
     let m = count.value;
     let mut same = count.there & (m == words);
     let mut i = 0u64;
     while i < m {
-        let word = read::eight(fd);
+        let word = read::eight(file);
         same = same & word.there & (word.value == word_at(out, i as usize));
         i += 1;
     }
@@ -129,10 +130,10 @@ fn is_stored(fd: i32, out: &[u64], words: u64) -> bool {
 }
 
 // One question.
-fn after_question(fd: i32, judge: Judge, log: &[u8], work: &[u64]) -> Asked {
-    let what = read::one(fd);
-    let first = read::eight(fd);
-    let second = read::eight(fd);
+fn after_question<R: Read>(file: &mut R, judge: Judge, log: &[u8], work: &[u64]) -> Asked {
+    let what = read::one(file);
+    let first = read::eight(file);
+    let second = read::eight(file);
     let q = Stored {
         what: what.value,
         first: first.value,
@@ -141,7 +142,7 @@ fn after_question(fd: i32, judge: Judge, log: &[u8], work: &[u64]) -> Asked {
     let mut out = [0u64; 64];
     let given = answer_of(judge, log, work, q, &mut out);
     let next = given.judge;
-    let same = is_stored(fd, &out, given.words);
+    let same = is_stored(file, &out, given.words);
     Asked {
         judge: next,
         right: what.there & first.there & second.there & given.right & same,
@@ -149,13 +150,13 @@ fn after_question(fd: i32, judge: Judge, log: &[u8], work: &[u64]) -> Asked {
 }
 
 // All questions of a trace.
-pub fn all_asked(fd: i32, judge: Judge, log: &[u8], work: &[u64]) -> bool {
-    let count = read::two(fd);
+pub fn all_asked<R: Read>(file: &mut R, judge: Judge, log: &[u8], work: &[u64]) -> bool {
+    let count = read::two(file);
     let mut left = count.value;
     let mut right = count.there;
     let mut now = judge;
     while 0 < left {
-        let one = after_question(fd, now, log, work);
+        let one = after_question(file, now, log, work);
         let next = one.judge;
         now = next;
         right = right & one.right;

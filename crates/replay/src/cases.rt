@@ -1,7 +1,8 @@
 // The cases of `form.bin`: a length of two bytes, the refusal that its form draws, the bytes.
-use crate::read::pair;
+use crate::read::{pair, read_full};
 use crate::tally::{Outcome, Tally, counted, is_last, outcome_of};
 use form::{form_of, number_of};
+use std::io::Read;
 
 fn judged(bytes: &[u8], refusal: u8) -> Outcome {
     outcome_of(number_of(form_of(bytes)) == refusal)
@@ -9,11 +10,11 @@ fn judged(bytes: &[u8], refusal: u8) -> Outcome {
 
 // The bytes of a case, which are length many, are read into the buffer and judged. A case that is cut short counts as
 // wrong: the vectors are damaged then.
-fn read_case(fd: i32, buffer: &mut [u8], length: usize, refusal: u8) -> Outcome {
+fn read_case<R: Read>(file: &mut R, buffer: &mut [u8], length: usize, refusal: u8) -> Outcome {
     if buffer.len() < length {
         return Outcome::Broken;
     }
-    let got = io::read_full(fd, &mut buffer[..length]);
+    let got = read_full(file, &mut buffer[..length]);
     if got != length {
         return Outcome::Broken;
     }
@@ -21,9 +22,9 @@ fn read_case(fd: i32, buffer: &mut [u8], length: usize, refusal: u8) -> Outcome 
 }
 
 // One case of the file.
-fn next_case(fd: i32) -> Outcome {
+fn next_case<R: Read>(file: &mut R) -> Outcome {
     let mut head = [0u8; 3];
-    let got = io::read_full(fd, &mut head);
+    let got = read_full(file, &mut head);
     if got == 0 {
         return Outcome::End;
     }
@@ -31,15 +32,15 @@ fn next_case(fd: i32) -> Outcome {
         return Outcome::Broken;
     }
     let mut buffer = [0u8; 512];
-    read_case(fd, &mut buffer, pair(head[0], head[1]) as usize, head[2])
+    read_case(file, &mut buffer, pair(head[0], head[1]) as usize, head[2])
 }
 
 // All cases of the file. No file has more than the turns counted here.
-pub fn all_cases(fd: i32) -> Tally {
+pub fn all_cases<R: Read>(file: &mut R) -> Tally {
     let mut tally = Tally { right: 0, wrong: 0 };
     let mut turns = 1000000u64;
     while 0 < turns {
-        let came = next_case(fd);
+        let came = next_case(file);
         tally = counted(tally, came);
         if is_last(came) {
             return tally;

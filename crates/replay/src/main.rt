@@ -2,7 +2,9 @@
 // out otherwise: `form.bin` through the record form, `traces.bin` through the judge.
 #![tactic(auto)]
 
-use libc::STDOUT_FILENO;
+use std::fs::File;
+use std::io;
+use std::rt::Files;
 use tally::Tally;
 
 mod ask;
@@ -14,35 +16,27 @@ mod refusal;
 mod tally;
 mod trace;
 
-fn say(name: &[u8], tally: Tally) {
-    io::write_all(STDOUT_FILENO, name);
-    io::print_decimal(STDOUT_FILENO, tally.right);
-    io::write_all(STDOUT_FILENO, b" right, ");
-    io::print_decimal(STDOUT_FILENO, tally.wrong);
-    io::write_all(STDOUT_FILENO, b" wrong\n");
+fn say(rt: &impl Print, name: &str, tally: Tally) -> io::Result<()> {
+    let right = tally.right;
+    let wrong = tally.wrong;
+    println!(rt; "{name}: {right} right, {wrong} wrong")
 }
 
-fn run_form() {
-    let fd = os::open_read(b"form.bin");
-    if fd < 0 {
-        os::fail(b"form.bin");
-        return;
+fn run_form(rt: &(impl Files + Print + Eprint)) -> io::Result<()> {
+    match File::open(rt, "form.bin") {
+        Ok(mut file) => say(rt, "form", cases::all_cases(&mut file)),
+        Err(e) => eprintln!(rt; "form.bin: {e}"),
     }
-    say(b"form: ", cases::all_cases(fd));
-    libc::close(fd);
 }
 
-fn run_traces() {
-    let fd = os::open_read(b"traces.bin");
-    if fd < 0 {
-        os::fail(b"traces.bin");
-        return;
+fn run_traces(rt: &(impl Files + Print + Eprint)) -> io::Result<()> {
+    match File::open(rt, "traces.bin") {
+        Ok(mut file) => say(rt, "traces", trace::all_traces(&mut file)),
+        Err(e) => eprintln!(rt; "traces.bin: {e}"),
     }
-    say(b"traces: ", trace::all_traces(fd));
-    libc::close(fd);
 }
 
-fn main() {
-    run_form();
-    run_traces();
+fn main(rt: HostRuntime) -> io::Result<()> {
+    run_form(&rt)?;
+    run_traces(&rt)
 }

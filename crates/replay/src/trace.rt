@@ -10,6 +10,7 @@ use judge::state::Judge;
 use record::number::u64_at;
 use rows::pass;
 use rules::{CHECKS, Evidence, Opening, Report, Verdict};
+use std::io::Read;
 
 // What was read of stored reports, and whether all its bytes were there.
 #[derive(Clone, Copy)]
@@ -38,12 +39,12 @@ struct Run {
     right: bool,
 }
 
-fn read_evidence(fd: i32) -> ReadEvidence {
-    let e0 = read::eight(fd);
-    let e1 = read::eight(fd);
-    let e2 = read::eight(fd);
-    let e3 = read::eight(fd);
-    let e4 = read::eight(fd);
+fn read_evidence<R: Read>(file: &mut R) -> ReadEvidence {
+    let e0 = read::eight(file);
+    let e1 = read::eight(file);
+    let e2 = read::eight(file);
+    let e3 = read::eight(file);
+    let e4 = read::eight(file);
     ReadEvidence {
         evidence: Evidence {
             e0: e0.value,
@@ -57,12 +58,12 @@ fn read_evidence(fd: i32) -> ReadEvidence {
 }
 
 // A stored report: kind, position, evidence.
-fn read_report(fd: i32) -> ReadReport {
+fn read_report<R: Read>(file: &mut R) -> ReadReport {
     let mut head = [0u8; 3];
-    let got = io::read_full(fd, &mut head);
+    let got = read::read_full(file, &mut head);
     let verdict = Verdict::Faulted(head[0]);
     let at = read::pair(head[1], head[2]);
-    let rest = read_evidence(fd);
+    let rest = read_evidence(file);
     let evidence = rest.evidence;
     ReadReport {
         report: Report {
@@ -75,9 +76,9 @@ fn read_report(fd: i32) -> ReadReport {
 }
 
 // A check's report after a record: the next in the file where it changed, else the one before.
-fn next_report(fd: i32, old: Report, changed: bool) -> ReadReport {
+fn next_report<R: Read>(file: &mut R, old: Report, changed: bool) -> ReadReport {
     if changed {
-        return read_report(fd);
+        return read_report(file);
     }
     ReadReport {
         report: old,
@@ -86,14 +87,14 @@ fn next_report(fd: i32, old: Report, changed: bool) -> ReadReport {
 }
 
 // The reports after a record: a bit for each that changed, and those.
-fn next_reports(fd: i32, old: [Report; CHECKS]) -> ReadReports {
-    let bits = read::two(fd);
+fn next_reports<R: Read>(file: &mut R, old: [Report; CHECKS]) -> ReadReports {
+    let bits = read::two(file);
     let mut reports = old;
     let mut there = bits.there;
     let mut rest = bits.value;
     let mut k = 0usize;
     while k < CHECKS {
-        let r = next_report(fd, reports[k], rest % 2 == 1);
+        let r = next_report(file, reports[k], rest % 2 == 1);
         let report = r.report;
         reports[k] = report;
         there = there & r.there;
@@ -107,10 +108,16 @@ fn next_reports(fd: i32, old: [Report; CHECKS]) -> ReadReports {
 }
 
 // One more record, and the reports after it. These are read first, since the preview of the record has to show them.
-fn after_record(fd: i32, run: Run, log: &mut [u8], work: &mut [u64], rec: &[u8]) -> Run {
+fn after_record<R: Read>(
+    file: &mut R,
+    run: Run,
+    log: &mut [u8],
+    work: &mut [u64],
+    rec: &[u8],
+) -> Run {
     let judge = run.judge;
     let old = run.reports;
-    let stored = next_reports(fd, old);
+    let stored = next_reports(file, old);
     let reports = stored.reports;
     let taken = taken_after_preview(judge, log, work, rec, old, reports);
     let next = taken.judge;
@@ -122,7 +129,13 @@ fn after_record(fd: i32, run: Run, log: &mut [u8], work: &mut [u64], rec: &[u8])
 }
 
 // All records of a trace, from a judge that has taken none and whose reports are passes.
-fn after_records(fd: i32, judge: Judge, log: &mut [u8], work: &mut [u64], records: &[u8]) -> Run {
+fn after_records<R: Read>(
+    file: &mut R,
+    judge: Judge,
+    log: &mut [u8],
+    work: &mut [u64],
+    records: &[u8],
+) -> Run {
     let p = pass();
     let passes = [p; CHECKS];
     let mut run = Run {
@@ -133,7 +146,7 @@ fn after_records(fd: i32, judge: Judge, log: &mut [u8], work: &mut [u64], record
     let mut at = 0usize;
     while 368 <= records.len() - at {
         let end = at + 368;
-        let next = after_record(fd, run, log, work, &records[at..end]);
+        let next = after_record(file, run, log, work, &records[at..end]);
         run = next;
         at = end;
     }
@@ -141,36 +154,36 @@ fn after_records(fd: i32, judge: Judge, log: &mut [u8], work: &mut [u64], record
 }
 
 // A trace with these records: a judge is opened, takes them, and is asked.
-fn played(fd: i32, tenant: u64, records: &[u8]) -> Outcome {
+fn played<R: Read>(file: &mut R, tenant: u64, records: &[u8]) -> Outcome {
     let mut log = [0u8; 5152];
     let mut work = [0u64; 448];
     let opening = Opening { tenant: tenant };
     let opened = Judge::open(opening, &log, &mut work);
     let refusal = opened.refusal;
     let judge = opened.judge;
-    let run = after_records(fd, judge, &mut log, &mut work, records);
+    let run = after_records(file, judge, &mut log, &mut work, records);
     let last = run.judge;
-    let answered = all_asked(fd, last, &log, &work);
+    let answered = all_asked(file, last, &log, &work);
     outcome_of(is_nothing(refusal) & run.right & answered)
 }
 
 // The records of a trace, which are size bytes, are read into the buffer and played. A trace that is cut short counts
 // as wrong: the vectors are damaged then.
-fn read_trace(fd: i32, tenant: u64, buffer: &mut [u8], size: usize) -> Outcome {
+fn read_trace<R: Read>(file: &mut R, tenant: u64, buffer: &mut [u8], size: usize) -> Outcome {
     if buffer.len() < size {
         return Outcome::Broken;
     }
-    let got = io::read_full(fd, &mut buffer[..size]);
+    let got = read::read_full(file, &mut buffer[..size]);
     if got != size {
         return Outcome::Broken;
     }
-    played(fd, tenant, &buffer[..size])
+    played(file, tenant, &buffer[..size])
 }
 
 // One trace of the file: a tenant, a number of records, and the rest.
-fn next_trace(fd: i32) -> Outcome {
+fn next_trace<R: Read>(file: &mut R) -> Outcome {
     let mut head = [0u8; 10];
-    let got = io::read_full(fd, &mut head);
+    let got = read::read_full(file, &mut head);
     if got == 0 {
         return Outcome::End;
     }
@@ -182,15 +195,15 @@ fn next_trace(fd: i32) -> Outcome {
         return Outcome::Broken;
     }
     let mut buffer = [0u8; 5152];
-    read_trace(fd, u64_at(&head, 0), &mut buffer, 368 * (count as usize))
+    read_trace(file, u64_at(&head, 0), &mut buffer, 368 * (count as usize))
 }
 
 // All traces of the file. No file has more than the turns counted here.
-pub fn all_traces(fd: i32) -> Tally {
+pub fn all_traces<R: Read>(file: &mut R) -> Tally {
     let mut tally = Tally { right: 0, wrong: 0 };
     let mut turns = 1000000u64;
     while 0 < turns {
-        let came = next_trace(fd);
+        let came = next_trace(file);
         tally = counted(tally, came);
         if is_last(came) {
             return tally;
