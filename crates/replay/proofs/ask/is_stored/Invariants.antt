@@ -3,7 +3,7 @@ use Prim.Native.Nat.{◌≤◌, ◌-◌}
 use Rattle.replay.proofs.ask.is_stored.Given as goal
 
 abbrev pub invariant-loop-i : goal.invariant-loop-i
-invariant-loop-i l = l.i ≤ l.m
+invariant-loop-i g l = l.i ≤ l.m
 
 abbrev pub decreases-loop-i : goal.decreases-loop-i
-decreases-loop-i l = l.m - l.i
+decreases-loop-i g l = l.m - l.i
