@@ -5,17 +5,16 @@ use Rattle.sheet.proofs.judged.Goals as goal
 
 pub returns : goal.returns
 returns c =
-    let c1 = c in
-    let c2 = c1 in
+    let t = c.judge_trace-traced in
     record {
-      traced = c2.judge_trace-traced.result;
+      traced = t.result;
       log = replicate 35328 0;
       work = replicate 3072 0;
-      log' = c2.judge_trace-traced.new.1.0;
-      work' = c2.judge_trace-traced.new.1.1.0;
-      log-size = length-replicate {A = ℕ} 35328 0;
-      work-size = length-replicate {A = ℕ} 3072 0;
-      judged = c2.judge_trace-traced.ensures;
-      size = c1.sheet_of.ensures.value;
-      is = c1.sheet_of.ensures.out_after;
+      log' = t.new.log;
+      work' = t.new.work;
+      log_size = length-replicate {A = ℕ} 35328 0;
+      work_size = length-replicate {A = ℕ} 3072 0;
+      judged = t.ensures;
+      size = c.sheet_of.ensures.value;
+      is = c.sheet_of.ensures.out_after;
     }

@@ -8,9 +8,9 @@ use Rattle.sheet.proofs.print_sheet.Goals as goal
 pub slice_bounds-out-end : goal.slice_bounds-out-end
 slice_bounds-out-end c =
     let j = c.judged-end in
-    printed_within (sheet_of j.ensures.traced) (replicate 2048 0) j.ensures.size j.ensures.is j.auto.1.0
+    printed_within (sheet_of j.ensures.traced) (replicate 2048 0) j.ensures.size j.ensures.is j.auto.out
 
 pub slice_bounds-write_output-end : goal.slice_bounds-write_output-end
 slice_bounds-write_output-end c =
     let j = c.judged-end in
-    (counts _ j.result (printed_within (sheet_of j.ensures.traced) (replicate 2048 0) j.ensures.size j.ensures.is j.auto.1.0)).1
+    (counts _ j.result (printed_within (sheet_of j.ensures.traced) (replicate 2048 0) j.ensures.size j.ensures.is j.auto.out)).1

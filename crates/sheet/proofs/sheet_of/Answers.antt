@@ -9,12 +9,10 @@ use Rattle.sheet.proofs.sheet_of.Goals as goal
 pub returns : goal.returns
 unfolding sheet_of
 returns c =
-    let c1 = c in
-    let c2 = c1 in
-    let a = c2.args in
+    let a = c.args in
     let t = a.traced in
     let f : (n : ℕ) → List ℕ = λ n. sheet_text t.judge.reports t.judge.count n t.at in
     record {
-      value = c1.sheet.ensures.value ∙ ap (λ (n : ℕ). printed_length (f n) a.out.now) c2.number_of.ensures;
-      out_after = c1.sheet.ensures.out_after ∙ ap (λ (n : ℕ). printed (f n) a.out.now) c2.number_of.ensures;
+      value = c.sheet.ensures.value ∙ ap (λ (n : ℕ). printed_length (f n) a.out.now) c.number_of.ensures;
+      out_after = c.sheet.ensures.out_after ∙ ap (λ (n : ℕ). printed (f n) a.out.now) c.number_of.ensures;
     }
