@@ -12,7 +12,7 @@ use borrow.Author.Tests.{ltb-true, leb-true, lt-ltb, le-ltb, le-leb, eq-eqb, ne_
 use Rattle.record.proofs.Numbers.{Bytes}
 use Rattle.record.specs.Numbers.{bytes_of}
 use Rattle.rules.specs.Checks.{check_count}
-use Rattle.tally.specs.Stored.{holds, stored, number_in, all_to}
+use Rattle.tally.specs.Stored.{holds, number_in, all_to}
 use Rattle.tally.specs.Counts.{place_count, tally_places, record_of, place_of}
 use Rattle.tally.specs.Entries.{width, tally_size}
 use Rattle.tally.specs.Raising.{Known, raise_at, raised_to, tallied_to, room_to, room_for}

@@ -1,6 +1,5 @@
 -- `copy_rows`: what is still to be copied is what the state has from there on.
 use mathlib.Core.Path.{refl, sym, ◌∙◌}
-use Prim.Native.Nat.{◌-◌}
 use native.Mathlib.Omega.{arith}
 use lib.ListN.{length-set}
 use Rattle.state_words.specs.StateWords.{header_size}

@@ -1,13 +1,12 @@
 -- `take_into`: the record is taken, or refused, on the state's own words, and the count and the events are raised.
-use mathlib.Core.Path.{◌≡◌, sym, ◌∙◌}
+use mathlib.Core.Path.{sym, ◌∙◌}
 use Prim.Native.Nat.{ℕ, ◌+◌, ◌≤◌, ◌<◌}
 use native.Mathlib.Omega.{arith}
-use lib.ListN.{length, get_or, length-set}
+use lib.ListN.{get_or, length-set}
 use mir.Syntax.{w64}
 use mir.Val.{Fits}
 use Rattle.decision.proofs.Decisions.{Room, room_of}
-use Rattle.state_words.specs.StateWords.{state_size, IsState}
-use Rattle.state_words.proofs.Headers.{with_rows, part_size, with_size}
+use Rattle.state_words.proofs.Headers.{part_size, with_size}
 use Rattle.state_words.proofs.States.{state_facts}
 use Rattle.petalchurn.proofs.CallLaws.{rows_left, push_left, push_done}
 use Rattle.petalchurn.proofs.calls.take_into.Goals as goal
@@ -45,7 +44,7 @@ pub overflow_add-state : goal.overflow_add-state
 overflow_add-state c =
     let a = c.args in
     let r : Room (get_or a.state.now 0 0) (get_or a.state.now 1 0) a.log.now a.work.now a.rec.now =
-        room_of (sym c.take-refusal.ensures.refusal ∙ c.if-refusal-ne0.false) in
+    room_of (sym c.take-refusal.ensures.refusal ∙ c.if-refusal-ne0.false) in
     next_fits (get_or c.args.state.now 1 0) (get_or c.args.state.now 0 0) r.room r.suits.small
 
 pub bounds-state-1-2 : goal.bounds-state-1-2
@@ -59,7 +58,7 @@ pub event_after-requires : goal.event_after-requires
 event_after-requires c =
     let a = c.args in
     let r : Room (get_or a.state.now 0 0) (get_or a.state.now 1 0) a.log.now a.work.now a.rec.now =
-        room_of (sym c.take-refusal.ensures.refusal ∙ c.if-refusal-ne0.false) in
+    room_of (sym c.take-refusal.ensures.refusal ∙ c.if-refusal-ne0.false) in
     r.size
 
 pub bounds-state-2-2 : goal.bounds-state-2-2

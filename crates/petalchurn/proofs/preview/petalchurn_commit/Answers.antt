@@ -1,8 +1,7 @@
 -- `petalchurn_commit`: no state, numbers or lengths that do not suit, a count that is not the judge's; else what `take_into` gives.
-use mathlib.Core.Path.{◌≡◌, sym, ◌∙◌}
-use mathlib.Core.Bool.{true}
+use mathlib.Core.Path.{sym, ◌∙◌}
 use native.Mathlib.Omega.{arith}
-use Rattle.state_words.specs.StateWords.{is_state, IsState, judge_in}
+use Rattle.state_words.specs.StateWords.{judge_in}
 use Rattle.state_words.proofs.States.{state_facts}
 use Rattle.ticket_bytes.proofs.TicketBytes.{current_has}
 use Rattle.petalchurn.proofs.PreviewLaws.{commit_unfit, commit_unsuited, commit_stale, commit_done}

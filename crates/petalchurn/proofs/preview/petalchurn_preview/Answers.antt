@@ -1,10 +1,9 @@
 -- `petalchurn_preview`: a list too short, no state; else what is shown, and the ticket of the record or of zeros.
 use mathlib.Core.Path.{◌≡◌, sym, ◌∙◌}
-use mathlib.Core.Bool.{true, false}
+use mathlib.Core.Bool.{false}
 use native.Mathlib.Omega.{arith}
 use Rattle.state_words.specs.StateWords.{is_state, judge_in}
 use Rattle.state_words.proofs.States.{state_facts}
-use Rattle.petalchurn.specs.Previews.{roomy}
 use Rattle.petalchurn.proofs.PreviewLaws.{no_room, room, room_rows, room_ticket, front_passes}
 use Rattle.petalchurn.proofs.PreviewLaws.{preview_short, preview_unfit, preview_refused, preview_taken, preview_size}
 use Rattle.petalchurn.proofs.preview.petalchurn_preview.Goals as goal
@@ -29,15 +28,17 @@ returns-then-not-is_state c =
     let a = c.args in
     let none : is_state a.state.now ≡ false = sym c.is_state.ensures ∙ c.if-not-is_state.true in
     preview_unfit a.state.now a.log.now a.work.now a.rec.now a.reports.now a.ticket.now
-        (room c.args.reports.now c.args.ticket.now c.if-reports-ticket.false) none
+    (room c.args.reports.now c.args.ticket.now c.if-reports-ticket.false) none
     (front_passes a.reports.now (room_rows a.reports.now a.ticket.now (room c.args.reports.now c.args.ticket.now c.if-reports-ticket.false)) c.clear.ensures)
     c.clear_ticket.ensures
 
 pub show-refusal-requires : goal.show-refusal-requires
 show-refusal-requires c =
-    let a = c.args in
-    (state_facts a.state.now (sym c.is_state.ensures ∙ c.if-not-is_state.false), room_rows a.reports.now a.ticket.now
-        (room c.args.reports.now c.args.ticket.now c.if-reports-ticket.false))
+    let a = c.args in (
+      state_facts a.state.now (sym c.is_state.ensures ∙ c.if-not-is_state.false),
+      room_rows a.reports.now a.ticket.now
+          (room c.args.reports.now c.args.ticket.now c.if-reports-ticket.false),
+    )
 
 pub clear_ticket-requires-then-refusal-ne0 : goal.clear_ticket-requires-then-refusal-ne0
 clear_ticket-requires-then-refusal-ne0 c =
@@ -47,7 +48,7 @@ pub returns-then-refusal-ne0 : goal.returns-then-refusal-ne0
 returns-then-refusal-ne0 c =
     let a = c.args in
     preview_refused a.state.now a.log.now a.work.now a.rec.now a.reports.now a.ticket.now
-        (room c.args.reports.now c.args.ticket.now c.if-reports-ticket.false) (sym c.is_state.ensures ∙ c.if-not-is_state.false)
+    (room c.args.reports.now c.args.ticket.now c.if-reports-ticket.false) (sym c.is_state.ensures ∙ c.if-not-is_state.false)
     c.show-refusal.ensures c.if-refusal-ne0.true c.clear_ticket-then-refusal-ne0.ensures
 
 pub bounds-state-1 : goal.bounds-state-1
@@ -69,5 +70,5 @@ unfolding judge_in
 returns c =
     let a = c.args in
     preview_taken a.state.now a.log.now a.work.now a.rec.now a.reports.now a.ticket.now
-        (room c.args.reports.now c.args.ticket.now c.if-reports-ticket.false) (sym c.is_state.ensures ∙ c.if-not-is_state.false)
+    (room c.args.reports.now c.args.ticket.now c.if-reports-ticket.false) (sym c.is_state.ensures ∙ c.if-not-is_state.false)
     c.show-refusal.ensures c.if-refusal-ne0.false c.write_ticket.ensures

@@ -1,7 +1,7 @@
 -- `checks_have_room`: record by record, the test of the first k records' places.
 use mathlib.Core.Path.{◌≡◌, sym, ap, ◌∙◌}
 use mathlib.Core.Bool.{◌&&◌}
-use Prim.Native.Nat.{ℕ, ◌-◌, ◌*◌, ◌<◌}
+use Prim.Native.Nat.{ℕ, ◌*◌, ◌<◌}
 use native.Mathlib.Omega.{arith}
 use Rattle.record.proofs.Numbers.{Bytes}
 use Rattle.rules.specs.Checks.{check_count}

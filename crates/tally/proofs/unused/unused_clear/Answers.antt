@@ -1,7 +1,7 @@
 -- `unused_clear`: record by record, the test of the first k records.
 use mathlib.Core.Path.{◌≡◌, sym, ap, ◌∙◌}
 use mathlib.Core.Bool.{Bool, ◌&&◌}
-use Prim.Native.Nat.{ℕ, ◌+◌, ◌-◌, ◌*◌}
+use Prim.Native.Nat.{ℕ, ◌+◌, ◌*◌}
 use native.Mathlib.Omega.{arith}
 use Rattle.tally.specs.Stored.{all_to, clear_from}
 use Rattle.tally.specs.Counts.{place_count, tally_places}
