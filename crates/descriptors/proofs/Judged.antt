@@ -81,7 +81,7 @@ module _ (log : List ℕ) (n : ℕ) (x : TraceRecord) (h : History) (index : ℕ
   state_some z b q =
       q ∙ ap (λ (y : TraceRecord). differs_case x.a index (held_by y) (held_by x) vs) (record_bytes log (n - 1) b)
       ∙ sym (ap (case_of (differs_fault (entry_at index x h) vs)) (found_some_at log n z found_at_lem)
-          ∙ differs_is (entry_at index x h) vs (put_entry log (n - 1)))
+      ∙ differs_is (entry_at index x h) vs (put_entry log (n - 1)))
 
   pub is_ahead_none : (d : ℕ) → n ≡ 0 → false ≡ holds (λ (v : Entry). ltb v.held.generation d) (at_in x.a index vs)
   is_ahead_none d z = sym (ap (holds (λ (v : Entry). ltb v.held.generation d)) (put_none log n z found_at_lem))

@@ -346,7 +346,7 @@ module _ (work work' w4 : List ℕ) (count cap : ℕ) (x : TraceRecord) (t : Tol
         (chain_if t.states a.entered_by_statement l rl (generation_heads * cap) (generation_links * cap) (omega arith) (omega arith) (inr (omega arith))
         (chain_if t.stands a.entered_by_range l rl (generation_heads * cap) (generation_links * cap) (omega arith) (omega arith) (inr (omega arith))
         (chain_if applied a.entered_by_node l nl (generation_heads * cap) (generation_links * cap) (omega arith) (omega arith)
-            (inr (omega arith)) d.generation))))
+        (inr (omega arith)) d.generation))))
 
     by_counts : Column (cell_of counts_after (x ∷ h)) (counts * cap) cap work'
     by_counts =

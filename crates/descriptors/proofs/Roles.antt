@@ -21,7 +21,7 @@ module _ (log : List ℕ) (k : ℕ) where
   put_is e =
       puts_entry (record_at log k) (hist log k) e
       ∙ ap (λ (n : ℕ). record { range = (record_at log k).a; index = (record_at log k).b; held = held_by (record_at log k); number = suc n })
-          (hist_length log k)
+      (hist_length log k)
 
   stated_is : {v : Entry} → tells_stated (record_at log k) (hist log k) ≡ some v → v ≡ stated_entry log k
   stated_is e =

@@ -258,7 +258,7 @@ standing_same : (x : TraceRecord) (h : History) → new_value x h ≡ none → s
 unfolding standing
 standing_same x h e =
     firsts_afresh same_place tells_put (x ∷ h) ∙ told_skip (fresh same_place tells_put) x h (sym (new_fresh x h) ∙ e)
-        ∙ sym (firsts_afresh same_place tells_put h)
+    ∙ sym (firsts_afresh same_place tells_put h)
 
 -- an earlier one that passes stays the earliest
 earliest_stays : (p : Entry → Bool) (v : Entry) (vs : List Entry) → any_of p vs ≡ true → earliest_of p (v ∷ vs) ≡ earliest_of p vs
@@ -365,7 +365,7 @@ module _ (cap node range : ℕ) where
 module _ (node range : ℕ) (log : List ℕ) (i : ℕ) where
   module _ {bytes : List ℕ} {t : Bool} (l : 0 < i) (e : bytes ≡ bytes_at (i - 1) log)
       (q : t ≡ is_by node (decode bytes) && (is_kind 1 (decode bytes) || is_kind 3 (decode bytes) || is_kind 4 (decode bytes)) && eqb
-          (decode bytes).a range) where
+      (decode bytes).a range) where
     is_applied : is_by node (record_at log (i - 1)) && (is_kind 1 (record_at log (i - 1)) || is_kind 3 (record_at log (i - 1)) || is_kind 4
         (record_at log (i - 1)))
         && eqb (record_at log (i - 1)).a range ≡ t

@@ -84,7 +84,7 @@ unfolding is_restated latest nodes_of told
 restated_node node [] q = never q refl
 restated_node node (x ∷ h) q =
     restated_next node x.node (nodes_of h) (latest (tells_restated node) h) (is_by node x) (is_kind 5 x || is_kind 6 x) (is_kind 5 x) refl
-        (restated_node node h) q
+    (restated_node node h) q
 
 pub lacking_right : (s : Registered) (x : TraceRecord) (h : History) → LowestOfAll (lacks s x h) (lowest_of (λ n. n) (lacks s x h) (nodes_of h))
 lacking_right s x h = candidates_suffice (lacks s x h) (nodes_of h) (λ n e. restated_node n h (and_left (is_restated n h) _ (and_left _ _ (and_left _ _ e))))

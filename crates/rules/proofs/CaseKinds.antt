@@ -189,7 +189,7 @@ won_kinds : (x : TraceRecord) (ns : List Name) → KindWithin 4 (won_fault x ns)
 unfolding won_fault
 won_kinds x ns =
     within_of (least_key (λ k. inside (span_of 1 x).start (span_of 1 x).end k && is_fault (key_fault x ns k)) ((span_of 1 x).start ∷ bounds ns))
-        (key_kinds x ns)
+    (key_kinds x ns)
 
 meta_kinds : (x : TraceRecord) (h : History) → KindWithin 4 (meta_at x h)
 unfolding meta_at

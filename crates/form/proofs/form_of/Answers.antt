@@ -19,8 +19,12 @@ values_fit-requires c = (c.if-rec-ne-RECORD_SIZE.false, (roomy_kind (get_or c.ar
 
 pub returns-then-not-values_fit : goal.returns-then-not-values_fit
 returns-then-not-values_fit c =
-    rw (by_shape c.args.rec.now c.if-rec-ne-RECORD_SIZE.false _
-        (sym c.shape_of-shaped.ensures ∙ c.in-Known.is), ← c.values_fit.ensures, c.if-not-values_fit.true)
+    rw (
+      by_shape c.args.rec.now c.if-rec-ne-RECORD_SIZE.false _
+          (sym c.shape_of-shaped.ensures ∙ c.in-Known.is),
+      ← c.values_fit.ensures,
+      c.if-not-values_fit.true,
+    )
 
 pub unused_clear-requires : goal.unused_clear-requires
 unused_clear-requires c =
@@ -30,12 +34,24 @@ unused_clear-requires c =
 
 pub returns-then-not-unused_clear : goal.returns-then-not-unused_clear
 returns-then-not-unused_clear c =
-    rw (by_shape c.args.rec.now c.if-rec-ne-RECORD_SIZE.false _
-        (sym c.shape_of-shaped.ensures
-        ∙ c.in-Known.is), ← c.values_fit.ensures, c.if-not-values_fit.false, ← c.unused_clear.ensures, c.if-not-unused_clear.true)
+    rw (
+      by_shape c.args.rec.now c.if-rec-ne-RECORD_SIZE.false _
+          (sym c.shape_of-shaped.ensures
+          ∙ c.in-Known.is),
+      ← c.values_fit.ensures,
+      c.if-not-values_fit.false,
+      ← c.unused_clear.ensures,
+      c.if-not-unused_clear.true,
+    )
 
 pub returns : goal.returns
 returns c =
-    rw (by_shape c.args.rec.now c.if-rec-ne-RECORD_SIZE.false _
-        (sym c.shape_of-shaped.ensures
-        ∙ c.in-Known.is), ← c.values_fit.ensures, c.if-not-values_fit.false, ← c.unused_clear.ensures, c.if-not-unused_clear.false)
+    rw (
+      by_shape c.args.rec.now c.if-rec-ne-RECORD_SIZE.false _
+          (sym c.shape_of-shaped.ensures
+          ∙ c.in-Known.is),
+      ← c.values_fit.ensures,
+      c.if-not-values_fit.false,
+      ← c.unused_clear.ensures,
+      c.if-not-unused_clear.false,
+    )

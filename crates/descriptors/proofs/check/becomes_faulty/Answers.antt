@@ -11,12 +11,18 @@ returns-then-a c = λ k. rw (ne_eqb _ _ (λ e. c.if-a.true (c.a.ensures ∙ e �
 
 pub returns-then-at-index : goal.returns-then-at-index
 returns-then-at-index c = let a = c.args in λ k.
-    rw (eq-eqb _ _ (sym c.a.ensures ∙ c.if-a.false ∙ c.a-2.ensures), lt-ltb (stated_index (decode a.s.now)) a.index
-        (omega (arith, c.stated_index-at.ensures, c.if-at-index.true)))
+    rw (
+      eq-eqb _ _ (sym c.a.ensures ∙ c.if-a.false ∙ c.a-2.ensures),
+      lt-ltb (stated_index (decode a.s.now)) a.index
+          (omega (arith, c.stated_index-at.ensures, c.if-at-index.true)),
+    )
     (c.falls_behind.ensures k ∙ rw (c.d.ensures, c.stated_index-at.ensures))
 
 pub returns : goal.returns
 returns c = let a = c.args in λ k.
-    rw (eq-eqb _ _ (sym c.a.ensures ∙ c.if-a.false ∙ c.a-2.ensures), le-ltb (stated_index (decode a.s.now)) a.index
-        (omega (arith, c.stated_index-at.ensures, c.if-at-index.false)))
+    rw (
+      eq-eqb _ _ (sym c.a.ensures ∙ c.if-a.false ∙ c.a-2.ensures),
+      le-ltb (stated_index (decode a.s.now)) a.index
+          (omega (arith, c.stated_index-at.ensures, c.if-at-index.false)),
+    )
     (c.goes_against.ensures k ∙ rw c.stated_index-at.ensures)

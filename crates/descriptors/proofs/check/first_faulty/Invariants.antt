@@ -17,10 +17,10 @@ invariant-loop-i l =
     (l.i ≤ l.count)
     × ((l.best ≤ l.count)
     × (DescriptorsIndexed l.cap (hist l.log l.count) l.work → put l.log l.next
-        ≡ next_in (entry_at l.index (decode l.rec) (hist l.log l.count)) (standing (hist l.log l.count)) → put l.log l.last
-        ≡ last_in (entry_at l.index (decode l.rec) (hist l.log l.count)) (standing (hist l.log l.count))
+    ≡ next_in (entry_at l.index (decode l.rec) (hist l.log l.count)) (standing (hist l.log l.count)) → put l.log l.last
+    ≡ last_in (entry_at l.index (decode l.rec) (hist l.log l.count)) (standing (hist l.log l.count))
     → Stands (stated_bucket l.cap) (bucket_by l.cap (decode l.rec).a) l.log
-        (Earliest l.cap (decode l.rec).a l.log (new_faulty (entry_at l.index (decode l.rec) (hist l.log l.count)) (standing (hist l.log l.count))) l.best)
+    (Earliest l.cap (decode l.rec).a l.log (new_faulty (entry_at l.index (decode l.rec) (hist l.log l.count)) (standing (hist l.log l.count))) l.best)
     (earliest_of (new_faulty (entry_at l.index (decode l.rec) (hist l.log l.count)) (standing (hist l.log l.count))) (stated (hist l.log l.count))) l.i))
 
 abbrev pub decreases-loop-i : goal.decreases-loop-i

@@ -9,9 +9,9 @@ use Rattle.descriptors.proofs.check.new_case.Goals as goal
 pub returns-then-at-index : goal.returns-then-at-index
 returns-then-at-index c = let a = c.args in λ k.
     rw (lt-ltb (stated_index (decode a.s.now)) a.index (omega (arith, c.stated_index-at.ensures, c.if-at-index.true)))
-        (c.fault.ensures ∙ rw (c.a.ensures, c.stated_index-at.ensures))
+    (c.fault.ensures ∙ rw (c.a.ensures, c.stated_index-at.ensures))
 
 pub returns : goal.returns
 returns c = let a = c.args in λ k.
     rw (le-ltb (stated_index (decode a.s.now)) a.index (omega (arith, c.stated_index-at.ensures, c.if-at-index.false)))
-        (c.differing_case.ensures k ∙ rw c.stated_index-at.ensures)
+    (c.differing_case.ensures k ∙ rw c.stated_index-at.ensures)

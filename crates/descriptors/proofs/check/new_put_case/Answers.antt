@@ -16,8 +16,14 @@ returns-then-n-eq0 c = let a = c.args in λ k role free clear. put_clear a.log.n
     (c.last_of-last.ensures.1 k))) c.if-n-eq0.true
 
 pub new_case-requires : goal.new_case-requires
-new_case-requires c = let p = c.requires in (p.0, (p.1, record_length c.args.log.now (c.first_faulty-n.result - 1) c.record_at.ensures
-    (omega (arith, p.0, c.first_faulty-n.ensures.0, c.if-n-eq0.false))))
+new_case-requires c = let p = c.requires in (
+  p.0,
+  (
+    p.1,
+    record_length c.args.log.now (c.first_faulty-n.result - 1) c.record_at.ensures
+        (omega (arith, p.0, c.first_faulty-n.ensures.0, c.if-n-eq0.false)),
+  ),
+)
 
 pub returns : goal.returns
 returns c = let a = c.args in λ k role free clear. put_faulty a.log.now c.first_faulty-n.result (decode a.rec.now)

@@ -13,8 +13,14 @@ returns-then-n-eq0 c = let a = c.args in λ k. state_none a.log.now c.greatest-n
     (standing (hist a.log.now a.count)) (c.greatest-n.ensures.1 k) c.if-n-eq0.true
 
 pub differing_case-requires : goal.differing_case-requires
-differing_case-requires c = (c.requires.0, (record_length c.args.log.now (c.greatest-n.result - 1) c.record_at.ensures
-    (omega (arith, c.greatest-n.ensures.0, c.if-n-eq0.false)), c.requires.1))
+differing_case-requires c = (
+  c.requires.0,
+  (
+    record_length c.args.log.now (c.greatest-n.result - 1) c.record_at.ensures
+        (omega (arith, c.greatest-n.ensures.0, c.if-n-eq0.false)),
+    c.requires.1,
+  ),
+)
 
 pub returns : goal.returns
 returns c = let a = c.args in λ k. state_some a.log.now c.greatest-n.result (decode a.rec.now) (hist a.log.now a.count) a.index c.a.ensures

@@ -12,4 +12,4 @@ returns c = let a = c.args in noted a.work.now c.put.new.work c.enter_all.new.wo
     c.applied_bucket.result c.bucket_by-by_range.result c.bucket_by_two-by_generation.result c.word-marked.result c.counts.result c.tells_applied.result
     (omega (arith, c.requires)) c.applied_bucket.ensures.1 c.bucket_by-by_range.ensures.1 c.bucket_by_two-by_generation.ensures.1 c.enter_all.ensures c.put.ensures c.applied_bucket.ensures.0 c.tells_applied.ensures
     (c.bucket_by-by_range.ensures.0 ∙ rw c.a.ensures) (c.bucket_by_two-by_generation.ensures.0 ∙ rw (c.a-2.ensures, c.d.ensures))
-        (c.word-marked.ensures ∙ ap (λ (n : ℕ). n + cond a.told.rises 16384 0) c.counts_next-after.ensures.0) c.counts.ensures.1
+    (c.word-marked.ensures ∙ ap (λ (n : ℕ). n + cond a.told.rises 16384 0) c.counts_next-after.ensures.0) c.counts.ensures.1

@@ -19,6 +19,6 @@ returns c = let a = c.args in
     let n = c.standing_at in λ k role.
     told_free (decode a.rec.now) (hist a.log.now a.count) a.index role refl
     (place_free a.log.now n.result (decode a.rec.now) (hist a.log.now a.count) a.index
-        (place_is (decode a.rec.now) (hist a.log.now a.count) a.index (standing (hist a.log.now a.count)) ra (n.ensures.1 k)) c.if-standing_at-ne0.false)
+    (place_is (decode a.rec.now) (hist a.log.now a.count) a.index (standing (hist a.log.now a.count)) ra (n.ensures.1 k)) c.if-standing_at-ne0.false)
     (first_free a.log.now c.first_of-first.result (decode a.rec.now) (hist a.log.now a.count) a.index ra c.d.ensures (c.first_of-first.ensures.1 k))
     (top_below a.log.now c.greatest-top.result (decode a.rec.now) (hist a.log.now a.count) a.index ra (c.greatest-top.ensures.1 k) c.is_below-rises.ensures)

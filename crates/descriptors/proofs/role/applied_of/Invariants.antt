@@ -13,7 +13,7 @@ invariant-loop-i l =
     (l.i ≤ l.count)
     × (DescriptorsIndexed l.cap (hist l.log l.count) l.work
     → Stands (applied_bucket l.cap) (bucket_by_two l.cap l.id l.range) l.log (λ n. applied l.id l.range (hist l.log n))
-        (applied l.id l.range (hist l.log l.count)) l.i)
+    (applied l.id l.range (hist l.log l.count)) l.i)
 
 abbrev pub decreases-loop-i : goal.decreases-loop-i
 decreases-loop-i l = l.i

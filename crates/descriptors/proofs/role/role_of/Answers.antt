@@ -15,10 +15,20 @@ returns-then-k-ne2 c = λ k. rw (ne_eqb _ 1 (λ e. c.if-k-eq1.false (c.kind-k.en
 
 pub returns-then-is_reached : goal.returns-then-is_reached
 unfolding role_of
-returns-then-is_reached c = λ k. rw (ne_eqb _ 1 (λ e. c.if-k-eq1.false (c.kind-k.ensures ∙ e)), eq-eqb _ 2
-    (sym c.kind-k.ensures ∙ c.if-k-ne2.false), sym (c.is_reached.ensures k) ∙ c.if-is_reached.true, c.c.ensures)
+returns-then-is_reached c = λ k. rw (
+  ne_eqb _ 1 (λ e. c.if-k-eq1.false (c.kind-k.ensures ∙ e)),
+  eq-eqb _ 2
+      (sym c.kind-k.ensures ∙ c.if-k-ne2.false),
+  sym (c.is_reached.ensures k) ∙ c.if-is_reached.true,
+  c.c.ensures,
+)
 
 pub returns : goal.returns
 unfolding role_of
-returns c = λ k. rw (ne_eqb _ 1 (λ e. c.if-k-eq1.false (c.kind-k.ensures ∙ e)), eq-eqb _ 2 (sym c.kind-k.ensures ∙ c.if-k-ne2.false), sym
-    (c.is_reached.ensures k) ∙ c.if-is_reached.false, c.b-2.ensures)
+returns c = λ k. rw (
+  ne_eqb _ 1 (λ e. c.if-k-eq1.false (c.kind-k.ensures ∙ e)),
+  eq-eqb _ 2 (sym c.kind-k.ensures ∙ c.if-k-ne2.false),
+  sym
+      (c.is_reached.ensures k) ∙ c.if-is_reached.false,
+  c.b-2.ensures,
+)

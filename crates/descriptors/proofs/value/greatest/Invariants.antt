@@ -16,8 +16,8 @@ invariant-loop-i l =
     × ((l.best ≤ l.count)
     × (DescriptorsIndexed l.cap (hist l.log l.count) l.work
     → Stands (standing_bucket l.cap) (bucket_by l.cap l.range) l.log
-        (Greatest l.cap l.range l.log (up_to l.range l.free l.index l.any l.generation) l.best)
-        (greatest_up_to l.range l.free l.index l.any l.generation (standing (hist l.log l.count))) l.i))
+    (Greatest l.cap l.range l.log (up_to l.range l.free l.index l.any l.generation) l.best)
+    (greatest_up_to l.range l.free l.index l.any l.generation (standing (hist l.log l.count))) l.i))
 
 abbrev pub decreases-loop-i : goal.decreases-loop-i
 decreases-loop-i l = l.i

@@ -10,13 +10,22 @@ pub returns-then-not-passes : goal.returns-then-not-passes
 returns-then-not-passes c = let a = c.args in (rw c.if-not-passes.true, λ n p q. p)
 
 pub returns-then-best-eq0 : goal.returns-then-best-eq0
-returns-then-best-eq0 c = let a = c.args in (weigh_first a.log.now a.best a.i a.passes (lower_of (λ v. v.index))
-    (λ v. lower_none (λ w. w.index) (some v)) c.if-not-passes.false c.if-best-eq0.true, λ n p q. omega arith)
+returns-then-best-eq0 c = let a = c.args in (
+  weigh_first a.log.now a.best a.i a.passes (lower_of (λ v. v.index))
+      (λ v. lower_none (λ w. w.index) (some v)) c.if-not-passes.false c.if-best-eq0.true,
+  λ n p q. omega arith,
+)
 
 pub returns-then-index_of : goal.returns-then-index_of
-returns-then-index_of c = let a = c.args in (lower_takes a.log.now a.best a.i a.passes c.if-not-passes.false c.if-best-eq0.false
-    (omega (arith, c.index_of.ensures, c.index_of-2.ensures)), λ n p q. omega arith)
+returns-then-index_of c = let a = c.args in (
+  lower_takes a.log.now a.best a.i a.passes c.if-not-passes.false c.if-best-eq0.false
+      (omega (arith, c.index_of.ensures, c.index_of-2.ensures)),
+  λ n p q. omega arith,
+)
 
 pub returns : goal.returns
-returns c = let a = c.args in (lower_keeps a.log.now a.best a.i a.passes c.if-not-passes.false c.if-best-eq0.false
-    (omega (arith, c.index_of.ensures, c.index_of-2.ensures)), λ n p q. p)
+returns c = let a = c.args in (
+  lower_keeps a.log.now a.best a.i a.passes c.if-not-passes.false c.if-best-eq0.false
+      (omega (arith, c.index_of.ensures, c.index_of-2.ensures)),
+  λ n p q. p,
+)

@@ -16,7 +16,7 @@ invariant-loop-i l =
     × ((l.best ≤ l.count)
     × (DescriptorsIndexed l.cap (hist l.log l.count) l.work
     → Stands (standing_bucket l.cap) (bucket_by l.cap l.range) l.log (Lowest l.cap l.range l.log (above l.range l.index l.any l.generation) l.best)
-        (lowest_above l.range l.index l.any l.generation (standing (hist l.log l.count))) l.i))
+    (lowest_above l.range l.index l.any l.generation (standing (hist l.log l.count))) l.i))
 
 abbrev pub decreases-loop-i : goal.decreases-loop-i
 decreases-loop-i l = l.i

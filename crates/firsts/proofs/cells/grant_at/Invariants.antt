@@ -11,7 +11,7 @@ invariant-loop-i l =
     (l.i ≤ l.count)
     × (FirstsIndexed l.cap (hist l.log l.count) l.work
     → Stands (first_bucket l.cap) (bucket_by l.cap l.index) l.log (λ n. first_grant_at l.index (hist l.log n))
-        (first_grant_at l.index (hist l.log l.count)) l.i)
+    (first_grant_at l.index (hist l.log l.count)) l.i)
 
 abbrev pub decreases-loop-i : goal.decreases-loop-i
 decreases-loop-i l = l.i

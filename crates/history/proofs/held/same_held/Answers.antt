@@ -26,4 +26,4 @@ returns c =
     let w = held_by (decode args.b.now) in
     let generation : v.generation ≡ w.generation = sym second.d.ensures ∙ same.if-d.false ∙ second.d-2.ensures in
     means (rw (same.same_named.ensures.answer, c.state.ensures, c.state-2.ensures) (one_generation v w generation))
-        (held_exactly v w)) in record { answer = whole.0; exactly = whole.1 }
+    (held_exactly v w)) in record { answer = whole.0; exactly = whole.1 }

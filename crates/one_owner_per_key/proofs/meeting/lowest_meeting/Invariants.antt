@@ -12,7 +12,7 @@ abbrev pub invariant-loop-i : goal.invariant-loop-i
 invariant-loop-i l =
     (l.i ≤ l.count) × (OwnersIndexed l.cap (hist l.log l.count) l.work
     → Walked (met (passes l.others (decode l.rec).spans) (span_of l.k (decode l.rec)) l.node.0 (hist l.log l.count)) l.node.0 l.log l.ended l.i
-        (range_in l.best))
+    (range_in l.best))
 
 abbrev pub decreases-loop-i : goal.decreases-loop-i
 decreases-loop-i l = l.i
