@@ -45,7 +45,8 @@ pub none_empty : (q : Question) → q ≡ IsEmpty → 1 ≡ value_of q []
 none_empty q e = sym (ap (λ (p : Question). value_of p []) e ∙ empty_none)
 
 pub none_others : (q : Question) → (q ≡ IsEmpty → ⊥) → 0 ≡ value_of q []
-unfolding before before_in at at_in first_at_generation first_at_generation_in statements stated told standing firsts greatest_of earliest_of holders_of blocks in_order blocks_of first_grants those
+unfolding before before_in at at_in first_at_generation first_at_generation_in statements stated told standing firsts greatest_of earliest_of
+    holders_of blocks in_order blocks_of first_grants those
 none_others (Before range index) k = refl
 none_others (At range index) k = refl
 none_others (FirstAtGeneration range generation) k = refl

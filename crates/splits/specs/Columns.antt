@@ -8,7 +8,8 @@ use Rattle.rules.specs.History.{History, Tells, is_kind, when, given}
 use Rattle.rules.specs.RightHalf.{server_of, is_restated, registers}
 use Rattle.history.specs.Buckets.{mix, mix_after, bucket}
 use Rattle.history.specs.Columns.{Column, cell_of, Chained, clamp, Entered}
-use Rattle.history.specs.Places.{server_at, restated_at, refused_at, pending_at, registered_by, latest_name, split_heads, split_links, recorded_heads, recorded_links}
+use Rattle.history.specs.Places.{server_at, restated_at, refused_at, pending_at, registered_by, latest_name, split_heads, split_links, recorded_heads}
+use Rattle.history.specs.Places.{recorded_links}
 use Rattle.one_owner_per_key.specs.Columns.{word_by, OwnersIndexed}
 use Rattle.splits.specs.declared.note.Cells.{Cells}
 use Rattle.splits.specs.Numbers.{restated_number, refused_number, pending_number, latest_registering, named_number}

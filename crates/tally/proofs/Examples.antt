@@ -54,7 +54,8 @@ counted : record_of ids left ∷ record_of (ids + 1) left ∷ record_of totals l
     ∷ (1 ∷ 0 ∷ 0 ∷ 0 ∷ 0 ∷ 0 ∷ 0 ∷ 0 ∷ 0 ∷ 0 ∷ [])
     ∷ (1 ∷ 2 ∷ 0 ∷ 0 ∷ 0 ∷ 0 ∷ 0 ∷ 0 ∷ 0 ∷ 0 ∷ [])
     ∷ []
-unfolding left_by entry_refusal is_entry unused_clear has_room all_to count_at used_places how_many records_taken judge_place stored bytes_of number_in little_endian
+unfolding left_by entry_refusal is_entry unused_clear has_room all_to count_at used_places how_many records_taken judge_place stored bytes_of
+    number_in little_endian
 counted = refl
 
 -- ---- what is refused
@@ -85,5 +86,6 @@ abbrev stays : List ℕ → ℕ → Type 0
 stays bytes kind = left_by bytes (judged ids kind 2) ≡ bytes
 
 kept : stays zero_tally 10 × stays (with ids 4 1) 3 × stays (with ids 3 4294967295) 3 × stays (with totals 1 4294967294) 3
-unfolding left_by entry_refusal is_entry unused_clear has_room all_to count_at used_places how_many records_taken judge_place stored bytes_of number_in little_endian
+unfolding left_by entry_refusal is_entry unused_clear has_room all_to count_at used_places how_many records_taken judge_place stored bytes_of
+    number_in little_endian
 kept = (refl, refl, refl, refl)

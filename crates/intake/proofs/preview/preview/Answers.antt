@@ -6,14 +6,17 @@ use Rattle.intake.proofs.preview.preview.Goals as goal
 pub returns-then-decided-ge-REFUSED : goal.returns-then-decided-ge-REFUSED
 returns-then-decided-ge-REFUSED c =
     let a = c.args in
-    previews_off (record { tenant = c.args.tenant }) a.cap a.n a.events c.args.log.now c.args.work.now c.args.rows.now c.args.rec.now c.decide-decided.ensures c.if-decided-ge-REFUSED.true
+    previews_off (record { tenant = c.args.tenant }) a.cap a.n a.events c.args.log.now c.args.work.now c.args.rows.now c.args.rec.now
+    c.decide-decided.ensures c.if-decided-ge-REFUSED.true
 
 pub judge-requires : goal.judge-requires
 judge-requires c =
     let a = c.args in
-    judge_ready (record { tenant = c.args.tenant }) a.cap a.n a.events c.args.log.now c.args.work.now c.args.rows.now c.args.rec.now c.decide-decided.ensures (omega (arith, c.if-decided-ge-REFUSED.false)) c.requires
+    judge_ready (record { tenant = c.args.tenant }) a.cap a.n a.events c.args.log.now c.args.work.now c.args.rows.now c.args.rec.now
+    c.decide-decided.ensures (omega (arith, c.if-decided-ge-REFUSED.false)) c.requires
 
 pub returns : goal.returns
 returns c =
     let a = c.args in
-    previews_on (record { tenant = c.args.tenant }) a.cap a.n a.events c.args.log.now c.args.work.now c.args.rows.now c.args.rec.now c.decide-decided.ensures (omega (arith, c.if-decided-ge-REFUSED.false)) c.judge.ensures
+    previews_on (record { tenant = c.args.tenant }) a.cap a.n a.events c.args.log.now c.args.work.now c.args.rows.now c.args.rec.now
+    c.decide-decided.ensures (omega (arith, c.if-decided-ge-REFUSED.false)) c.judge.ensures

@@ -32,7 +32,8 @@ pub returns-then-is_marked : goal.returns-then-is_marked
 returns-then-is_marked c = (
   omega arith,
   λ n l k m w. skips_marked (c.loop-i.invariant.1 n l k m w)
-      (omega arith) c.record_at-old.ensures c.b-index.ensures c.d-generation.ensures c.b.ensures c.d.ensures c.is_surpassed.ensures c.if-not-is_surpassed.false m (omega arith) k (omega arith) c.is_marked.ensures c.if-is_marked.true,
+      (omega arith) c.record_at-old.ensures c.b-index.ensures c.d-generation.ensures c.b.ensures c.d.ensures c.is_surpassed.ensures
+      c.if-not-is_surpassed.false m (omega arith) k (omega arith) c.is_marked.ensures c.if-is_marked.true,
 )
 
 pub name_before-i-requires : goal.name_before-i-requires
@@ -45,7 +46,8 @@ pub loop-i-preserved : goal.loop-i-preserved
 loop-i-preserved c = (
   omega arith,
   λ n l k m w. skips_next (c.loop-i.invariant.1 n l k m w)
-      (omega arith) c.record_at-old.ensures c.b-index.ensures c.d-generation.ensures c.b.ensures c.d.ensures c.is_surpassed.ensures c.if-not-is_surpassed.false (down _ _ m (omega arith) k (omega arith) c.name_before-i.ensures.1),
+      (omega arith) c.record_at-old.ensures c.b-index.ensures c.d-generation.ensures c.b.ensures c.d.ensures c.is_surpassed.ensures
+      c.if-not-is_surpassed.false (down _ _ m (omega arith) k (omega arith) c.name_before-i.ensures.1),
 )
 
 pub returns : goal.returns

@@ -39,7 +39,8 @@ loop-i-smaller c = omega (arith, c.name_before-i-in-loop-i.ensures.0, c.if-i-eq0
 
 pub loop-i-preserved : goal.loop-i-preserved
 loop-i-preserved c = turn_more (omega (arith, c.requires.0)) (omega
-    (arith, c.requires.0)) c.loop-i.invariant c.if-i-eq0.false c.stands-standing.ensures c.record_at-old.ensures c.start_of.ensures c.nearer-near.ensures c.end_of.ensures c.nearer-nearest.ensures c.name_before-i-in-loop-i.ensures
+    (arith, c.requires.0)) c.loop-i.invariant c.if-i-eq0.false c.stands-standing.ensures c.record_at-old.ensures c.start_of.ensures
+    c.nearer-near.ensures c.end_of.ensures c.nearer-nearest.ensures c.name_before-i-in-loop-i.ensures
 
 pub walk-smaller : goal.walk-smaller
 walk-smaller c = above_falls c.loop-i.invariant.up c.loop-i.invariant.mem

@@ -6,4 +6,11 @@ pub returns-then-kind-ne12 : goal.returns-then-kind-ne12
 returns-then-kind-ne12 c = rw (← c.kind.ensures, ne_eqb _ _ c.if-kind-ne12.true)
 
 pub returns : goal.returns
-returns c = rw (← c.kind.ensures, eq-eqb _ _ c.if-kind-ne12.false, ← c.span_count.ensures.0, ← c.start_of-start.ensures, ← c.end_of-end.ensures, ← c.key_less.ensures)
+returns c = rw (
+  ← c.kind.ensures,
+  eq-eqb _ _ c.if-kind-ne12.false,
+  ← c.span_count.ensures.0,
+  ← c.start_of-start.ensures,
+  ← c.end_of-end.ensures,
+  ← c.key_less.ensures,
+)
