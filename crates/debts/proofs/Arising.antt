@@ -4,7 +4,7 @@ use mathlib.Core.Path.{◌≡◌, refl, sym, ap, ◌∙◌}
 use mathlib.Core.Bool.{Bool, true, false, cond, not, ◌&&◌, ◌||◌}
 use mathlib.Core.List.{◌∷◌}
 use mathlib.Core.Logic.{⊎_elim}
-use mathlib.Core.Option.{Option, none, some}
+use Rattle.std.specs.Prelude.{Option, None, Some}
 use Prim.Native.Nat.{ℕ}
 use native.Mathlib.Omega.{arith}
 use lib.Dec.{eqb, leb}
@@ -64,9 +64,9 @@ module _ (node right : ℕ) (x : TraceRecord) (h : History) where
 
   pub data Arisen : Type 0 where
     own : (s : Registered) → s.right ≡ right → Mem s (registered h) → comes node s.parent s.index s.voters x h ≡ true → Arisen
-    early : (s : Registered) → s.right ≡ right → registers x h ≡ some s → is_voter node h s ≡ true
+    early : (s : Registered) → s.right ≡ right → registers x h ≡ Some s → is_voter node h s ≡ true
         → has_applied node s.parent s.index h || reaches node s h ≡ true → Arisen
-    itself : (s : Registered) → s.right ≡ right → registers x h ≡ some s → is_voter node h s ≡ true → is_by node x ≡ true → is_kind 2 x ≡ true
+    itself : (s : Registered) → s.right ≡ right → registers x h ≡ Some s → is_voter node h s ≡ true → is_by node x ≡ true → is_kind 2 x ≡ true
         → not (is_restated node h) ≡ true → leb s.index x.c ≡ true → Arisen
 
   coming : (s : Registered) → is_by node x ≡ true → x.a ≡ s.parent → applying s.index x (is_restated node h) ≡ true → is_voter node h s ≡ true
@@ -102,8 +102,8 @@ module _ (node right : ℕ) (x : TraceRecord) (h : History) where
       (mem_step x h w.mem)
 
   arisen_registering : (o : Option Registered) → registers x h ≡ o → holds (owes_by_registering node right h) o ≡ true → Arisen
-  arisen_registering none r e = never e refl
-  arisen_registering (some s) r e =
+  arisen_registering None r e = never e refl
+  arisen_registering (Some s) r e =
       let p = and_left (eqb s.right right && is_voter node h s) (has_applied node s.parent s.index h || reaches node s h) e in
       early s (eqb-true s.right right (and_left (eqb s.right right) _ p)) r (and_right (eqb s.right right) _ p)
       (and_right (eqb s.right right && is_voter node h s) _ e)

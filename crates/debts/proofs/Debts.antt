@@ -2,7 +2,7 @@
 use mathlib.Core.Path.{◌≡◌, refl, sym, ap, ◌∙◌}
 use mathlib.Core.Bool.{Bool, true, false, cond, not, ◌&&◌, ◌||◌, and-false}
 use mathlib.Core.List.{List, ◌∷◌}
-use mathlib.Core.Option.{Option, none, some}
+use Rattle.std.specs.Prelude.{Option, None, Some}
 use Prim.Native.Nat.{ℕ, ◌+◌, ◌-◌, ◌≤◌, ◌<◌}
 use native.Mathlib.Omega.{arith}
 use native.Mathlib.Decide.{ℕ_discrete, dec_lt}
@@ -38,25 +38,25 @@ use Rattle.rules.proofs.Applied.{only_split}
 
 -- ---- the number of the record that registered a split
 
-pub numbered_none : (log : List ℕ) {o : Option Registered} → o ≡ none → Numbered log 0 o
+pub numbered_none : (log : List ℕ) {o : Option Registered} → o ≡ None → Numbered log 0 o
 numbered_none log e = record { is = sym e; found = λ z. absurd (z refl) }
 
-pub numbered_some : (log : List ℕ) {k : ℕ} {o : Option Registered} {s : Registered} → (k ≡ 0 → ⊥) → placed_split log (k - 1) ≡ some s → o ≡ some s
+pub numbered_some : (log : List ℕ) {k : ℕ} {o : Option Registered} {s : Registered} → (k ≡ 0 → ⊥) → placed_split log (k - 1) ≡ Some s → o ≡ Some s
     → Numbered log k o
 numbered_some log {k} z e f = record {
-  is = ap (λ (t : Bool). cond t none (placed_split log (k - 1))) (ne_eqb k 0 z) ∙ e ∙ sym f;
+  is = ap (λ (t : Bool). cond t None (placed_split log (k - 1))) (ne_eqb k 0 z) ∙ e ∙ sym f;
   found = λ q. ap is_some f;
 }
 
 -- there is a split, and it passes
 record Held (p : Registered → Bool) (o : Option Registered) : Type 0 where
   it : Registered
-  is : o ≡ some it
+  is : o ≡ Some it
   passes : p it ≡ true
 
 held : (p : Registered → Bool) (o : Option Registered) → holds p o ≡ true → Held p o
-held p none e = never e refl
-held p (some s) e = record { it = s; is = refl; passes = e }
+held p None e = never e refl
+held p (Some s) e = record { it = s; is = refl; passes = e }
 
 -- ---- of a right range, with a voter
 
@@ -73,8 +73,8 @@ module _ (log : List ℕ) (t right : ℕ) where
   module _ (server : ℕ) where
     voted_cases : (o : Option Registered) → placed_split log t ≡ o
         → holds (λ s. is_right right s && has_voter server s) o ≡ holds (is_right right) o && any_of (λ u. eqb u server) y.voters
-    voted_cases none r = refl
-    voted_cases (some s) r = ap (λ (z : Registered). is_right right s && has_voter server z) (sym (split_is log y t s r))
+    voted_cases None r = refl
+    voted_cases (Some s) r = ap (λ (z : Registered). is_right right s && has_voter server z) (sym (split_is log y t s r))
 
     voted_is : holds (λ s. is_right right s && has_voter server s) (placed_split log t) ≡ holds (is_right right) (placed_split log t)
         && any_of (λ u. eqb u server) y.voters
@@ -97,8 +97,8 @@ module _ (log : List ℕ) (t right : ℕ) where
 
       covered_cases : (o : Option Registered) → placed_split log t ≡ o
           → holds (is_covered x right server) o ≡ (eqb (parent_by y) x.a && leb y.b x.c) && holds (λ s. is_right right s && has_voter server s) o
-      covered_cases none r = sym (and-false (eqb (parent_by y) x.a && leb y.b x.c))
-      covered_cases (some s) r =
+      covered_cases None r = sym (and-false (eqb (parent_by y) x.a && leb y.b x.c))
+      covered_cases (Some s) r =
           and_two (eqb s.parent x.a) (leb s.index x.c) (is_right right s) (has_voter server s)
           ∙ ap (λ (z : Registered). (eqb z.parent x.a && leb z.index x.c) && (is_right right s && has_voter server s)) (sym (split_is log y t s r))
 
@@ -133,7 +133,7 @@ module _ (log : List ℕ) (at right server : ℕ) {k : ℕ} (e : k ≡ split_num
         held (is_split x.a x.b) (placed_split log (k - 1))
         (rw e (number_is (registers_as x.a x.b) log at (omega arith)))
 
-    applied_is : applied_split log at right server ≡ cond (is_right right there_is.it && has_voter server there_is.it) (some there_is.it) none
+    applied_is : applied_split log at right server ≡ cond (is_right right there_is.it && has_voter server there_is.it) (Some there_is.it) None
     applied_is =
         only_split (hist log at) x.a x.b there_is.it
         (place_registered log at (k - 1) (omega (arith, e, number_bound (registers_as x.a x.b) log at)) there_is.is) there_is.passes
@@ -144,10 +144,10 @@ module _ (log : List ℕ) (at right server : ℕ) {k : ℕ} (e : k ≡ split_num
       test_is = sym (f ∙ ap (holds (λ s. is_right right s && has_voter server s)) there_is.is)
 
       pub applied_some : v ≡ true → Numbered log k (applied_split log at right server)
-      applied_some t = numbered_some log z there_is.is (applied_is ∙ ap (λ (b : Bool). cond b (some there_is.it) none) (test_is ∙ t))
+      applied_some t = numbered_some log z there_is.is (applied_is ∙ ap (λ (b : Bool). cond b (Some there_is.it) None) (test_is ∙ t))
 
       pub applied_not : v ≡ false → Numbered log 0 (applied_split log at right server)
-      applied_not t = numbered_none log (applied_is ∙ ap (λ (b : Bool). cond b (some there_is.it) none) (test_is ∙ t))
+      applied_not t = numbered_none log (applied_is ∙ ap (λ (b : Bool). cond b (Some there_is.it) None) (test_is ∙ t))
 
 -- ---- the split with the greatest index that a RangeDescriptor x has applied
 
@@ -250,21 +250,21 @@ module _ (log : List ℕ) (n : ℕ) (x : TraceRecord) (right server : ℕ) where
       (and_left (eqb s.parent x.a && leb s.index x.c) _
       (and_left (eqb s.parent x.a && leb s.index x.c && is_right right s) _ e)))
 
-  index_is : (t : ℕ) (s : Registered) → placed_split log t ≡ some s → s.index ≡ (record_at log t).b
+  index_is : (t : ℕ) (s : Registered) → placed_split log t ≡ Some s → s.index ≡ (record_at log t).b
   index_is t s r = ap (λ (z : Registered). z.index) (sym (split_is log (record_at log t) t s r))
 
   module _ {best : ℕ} (w : Covering log n x right server 0 best) where
     end_cases : (g : Option Registered)
         → Answer (Greatest (λ s. s.index) (is_covered x right server) (registered (hist log n))) (is_covered x right server) (registered (hist log n)) g
         → Numbered log best g
-    end_cases none a =
+    end_cases None a =
         elim (ℕ_discrete best 0) [
           | yes z ↦ rw z (numbered_none log refl)
           | no z ↦
               let u = held (is_covered x right server) (placed_split log (best - 1)) (w.sound z) in
               never u.passes (a u.it (place_registered log n (best - 1) (omega (arith, w.within)) u.is))
         ]
-    end_cases (some g) a =
+    end_cases (Some g) a =
         let m = placed_mem a.place in
         let c = registered_place log n m in
         let d = w.done c.at (omega arith) c.before (ap (holds (is_covered x right server)) c.is ∙ a.place.passes) in
@@ -273,7 +273,7 @@ module _ (log : List ℕ) (n : ℕ) (x : TraceRecord) (right server : ℕ) where
         let q = a.most u.it b u.passes in
         let i : u.it.index ≡ g.index = omega (arith, q, d.1, index_is (best - 1) u.it u.is, index_is c.at g c.is) in
         let k : u.it ≡ g = splits_one (hist log n) u.it g b m (covered_parent u.it u.passes ∙ sym (covered_parent g a.place.passes)) i in
-        numbered_some log d.0 u.is (ap some (sym k))
+        numbered_some log d.0 u.is (ap Some (sym k))
 
 pub cover_end : (log : List ℕ) (at right server : ℕ) {i best : ℕ} → i ≡ 0 → Covering log (at + 1) (record_at log at) right server i best
     → Numbered log best (covered_split log at right server)
@@ -302,7 +302,7 @@ module _ (log : List ℕ) (at node right : ℕ) where
   module _ (b : is_by node (record_at log at) ≡ true) where
     own_is : (t d : Bool) → is_kind 7 (record_at log at) || has_effect Took (record_at log at) ≡ t
         → is_kind 2 (record_at log at) && not (is_restated node (hist log at)) ≡ d
-        → own ≡ cond t (applied_split log at right (server_of node (hist log at)).0) (cond d (covered_split log at right (server_of node (hist log at)).0) none)
+        → own ≡ cond t (applied_split log at right (server_of node (hist log at)).0) (cond d (covered_split log at right (server_of node (hist log at)).0) None)
     own_is t d e f = own_kinds node right (record_at log at) (hist log at) ∙ rw (b, e, f)
 
     pub own_applied : {k : ℕ} {server : ServerId} → is_kind 7 (record_at log at) || has_effect Took (record_at log at) ≡ true
@@ -322,22 +322,22 @@ module _ (log : List ℕ) (at node right : ℕ) where
   -- ---- the registering record
 
   first_cases : (b v : Bool) (o : Option Registered) → holds (is_right right) o ≡ b → owes_first log at node (record_at log at) ≡ v
-      → given (λ s. when (is_right right s && owes_first log at node (record_at log at)) s) o ≡ cond (b && v) o none
-  first_cases true v none e f = never refl (sym e)
-  first_cases false v none e f = refl
-  first_cases b true (some s) e f = rw (f, e) (go b)
+      → given (λ s. when (is_right right s && owes_first log at node (record_at log at)) s) o ≡ cond (b && v) o None
+  first_cases true v None e f = never refl (sym e)
+  first_cases false v None e f = refl
+  first_cases b true (Some s) e f = rw (f, e) (go b)
     where
-      go : (u : Bool) → when (u && true) s ≡ cond (u && true) (some s) none
+      go : (u : Bool) → when (u && true) s ≡ cond (u && true) (Some s) None
       go true = refl
       go false = refl
-  first_cases b false (some s) e f = rw (f, e) (go b)
+  first_cases b false (Some s) e f = rw (f, e) (go b)
     where
-      go : (u : Bool) → when (u && false) s ≡ cond (u && false) (some s) none
+      go : (u : Bool) → when (u && false) s ≡ cond (u && false) (Some s) None
       go true = refl
       go false = refl
 
   first_is : (b v : Bool) → holds (is_right right) (placed_split log at) ≡ b → owes_first log at node (record_at log at) ≡ v
-      → first_split log at node right ≡ cond (b && v) (placed_split log at) none
+      → first_split log at node right ≡ cond (b && v) (placed_split log at) None
   first_is b v e f = first_cases b v (placed_split log at) e f
 
   pub first_some : holds (is_right right) (placed_split log at) ≡ true → owes_first log at node (record_at log at) ≡ true
@@ -362,11 +362,11 @@ module _ (log : List ℕ) (at node right : ℕ) where
     where
       go : (o : Option Registered) → own ≡ o → split_at log k ≡ own → is_some own ≡ true
           → Numbered log k (or_else own (registering_debt node right (record_at log at) (hist log at)))
-      go none e f g = never g (ap is_some e)
-      go (some s) e f g = record { is = f ∙ e ∙ sym (rw e); found = λ q. rw e }
+      go None e f g = never g (ap is_some e)
+      go (Some s) e f g = record { is = f ∙ e ∙ sym (rw e); found = λ q. rw e }
 
   -- where the node's own record makes nothing owed, the registering does by `owes_first`
-  module _ (no : own ≡ none) where
+  module _ (no : own ≡ None) where
     debt_is : debt_at node right (record_at log at) (hist log at) ≡ registering_debt node right (record_at log at) (hist log at)
     unfolding debt_at
     debt_is = rw no
@@ -376,15 +376,15 @@ module _ (log : List ℕ) (at node right : ℕ) where
     when_on false s e = e
 
     -- by owing, of the split that is registered
-    module _ (s : Registered) (r : placed_split log at ≡ some s) where
+    module _ (s : Registered) (r : placed_split log at ≡ Some s) where
       abbrev m : ℕ
       m = named_number (record_at log at) (hist log at)
 
       e : split_with log (record_at log at) m ≡ s
       e = split_is log (record_at log at) at s r
 
-      r' : placed_split log at ≡ some (split_with log (record_at log at) m)
-      r' = r ∙ ap some (sym e)
+      r' : placed_split log at ≡ Some (split_with log (record_at log at) m)
+      r' = r ∙ ap Some (sym e)
 
       first_by : is_right right s && owes_first log at node (record_at log at) ≡ true → owes_by_registering node right (hist log at) s ≡ true
       first_by q =
@@ -419,31 +419,31 @@ module _ (log : List ℕ) (at node right : ℕ) where
     registering_cases : (o : Option Registered) → placed_split log at ≡ o
         → given (λ s. when (owes_by_registering node right (hist log at) s) s) o
         ≡ given (λ s. when (is_right right s && owes_first log at node (record_at log at)) s) o
-    registering_cases none r = refl
-    registering_cases (some s) r = ap (λ (b : Bool). when b s) (by_same s r)
+    registering_cases None r = refl
+    registering_cases (Some s) r = ap (λ (b : Bool). when b s) (by_same s r)
 
     first_debt_is : debt_at node right (record_at log at) (hist log at) ≡ first_split log at node right
     first_debt_is = debt_is ∙ registering_cases (placed_split log at) refl
 
   pub debt_first : {k r : ℕ} → k ≡ 0 → Numbered log k own → Numbered log r (first_split log at node right)
       → Numbered log r (debt_at node right (record_at log at) (hist log at))
-  debt_first {k} z w v = rw (first_debt_is (sym w.is ∙ ap (λ (t : Bool). cond t none (placed_split log (k - 1))) (eq-eqb k 0 z))) v
+  debt_first {k} z w v = rw (first_debt_is (sym w.is ∙ ap (λ (t : Bool). cond t None (placed_split log (k - 1))) (eq-eqb k 0 z))) v
 
 -- ---- what is owed: a walk down stands at i, and what is owed after n records was owed after i
 
 abbrev pub Owes : List ℕ → ℕ → ℕ → ℕ → ℕ → Type 0
-Owes log node right n i = (s : Registered) → owes node right (hist log n) ≡ some s → owes node right (hist log i) ≡ some s
+Owes log node right n i = (s : Registered) → owes node right (hist log n) ≡ Some s → owes node right (hist log i) ≡ Some s
 
 module _ (log : List ℕ) (node right : ℕ) where
-  none_here : (s : Registered) (o : Option Registered) → o ≡ none → o ≡ some s → ⊥
+  none_here : (s : Registered) (o : Option Registered) → o ≡ None → o ≡ Some s → ⊥
   none_here s o e f = none_some (sym e ∙ f)
 
   -- what is owed with one more record: nothing was cancelled by it, and it is the debt that arises there, or else was owed before
-  module _ {i : ℕ} (l : 0 < i) (s : Registered) (w : owes node right (hist log i) ≡ some s) where
+  module _ {i : ℕ} (l : 0 < i) (s : Registered) (w : owes node right (hist log i) ≡ Some s) where
     abbrev z : TraceRecord
     z = record_at log (i - 1)
 
-    owes_here : owes node right (z ∷ hist log (i - 1)) ≡ some s
+    owes_here : owes node right (z ∷ hist log (i - 1)) ≡ Some s
     owes_here = ap (owes node right) (sym (hist_less log i l)) ∙ w
 
     kept : cancels node right z ≡ false
@@ -453,22 +453,22 @@ module _ (log : List ℕ) (node right : ℕ) where
         go true e = absurd (none_here s (owes node right (z ∷ hist log (i - 1))) (owes_cancelled node right z (hist log (i - 1)) e) owes_here)
         go false e = refl
 
-    owes_before : debt_at node right z (hist log (i - 1)) ≡ none → owes node right (hist log (i - 1)) ≡ some s
+    owes_before : debt_at node right z (hist log (i - 1)) ≡ None → owes node right (hist log (i - 1)) ≡ Some s
     owes_before d = sym (owes_kept node right z (hist log (i - 1)) kept d) ∙ owes_here
 
-    owes_debt : (o : Option Registered) → debt_at node right z (hist log (i - 1)) ≡ o → is_some o ≡ true → o ≡ some s
-    owes_debt none d e = never e refl
-    owes_debt (some t) d e = sym (owes_arises node right z (hist log (i - 1)) t kept d) ∙ owes_here
+    owes_debt : (o : Option Registered) → debt_at node right z (hist log (i - 1)) ≡ o → is_some o ≡ true → o ≡ Some s
+    owes_debt None d e = never e refl
+    owes_debt (Some t) d e = sym (owes_arises node right z (hist log (i - 1)) t kept d) ∙ owes_here
 
   module _ (n k : ℕ) {i : ℕ} (l : 0 < i) (w : Owes log node right n i)
       (d : split_at log k ≡ debt_at node right (record_at log (i - 1)) (hist log (i - 1))) where
     pub owes_next : k ≡ 0 → Owes log node right n (i - 1)
-    owes_next z s e = owes_before l s (w s e) (sym d ∙ ap (λ (t : Bool). cond t none (placed_split log (k - 1))) (eq-eqb k 0 z))
+    owes_next z s e = owes_before l s (w s e) (sym d ∙ ap (λ (t : Bool). cond t None (placed_split log (k - 1))) (eq-eqb k 0 z))
 
-    pub owes_found : is_some (debt_at node right (record_at log (i - 1)) (hist log (i - 1))) ≡ true → (s : Registered) → owes node right (hist log n) ≡ some s
-        → split_at log k ≡ some s
+    pub owes_found : is_some (debt_at node right (record_at log (i - 1)) (hist log (i - 1))) ≡ true → (s : Registered) → owes node right (hist log n) ≡ Some s
+        → split_at log k ≡ Some s
     owes_found g s e = d ∙ owes_debt l s (w s e) (debt_at node right (record_at log (i - 1)) (hist log (i - 1))) refl g
 
-  pub owes_end : (n : ℕ) {i : ℕ} → i ≡ 0 → Owes log node right n i → (s : Registered) → owes node right (hist log n) ≡ some s → split_at log 0 ≡ some s
+  pub owes_end : (n : ℕ) {i : ℕ} → i ≡ 0 → Owes log node right n i → (s : Registered) → owes node right (hist log n) ≡ Some s → split_at log 0 ≡ Some s
   owes_end n {i} z w s e =
       none_some (sym (owes_nil node right) ∙ ap (owes node right) (sym (hist_none log)) ∙ ap (λ (k : ℕ). owes node right (hist log k)) (sym z) ∙ w s e)

@@ -4,7 +4,7 @@ use mathlib.Core.Path.{◌≡◌, refl, sym, ap, ◌∙◌}
 use mathlib.Core.Bool.{Bool, true, false, cond, not, ◌&&◌, ◌||◌}
 use mathlib.Core.List.{List, ◌∷◌}
 use mathlib.Core.Logic.{⊎_elim}
-use mathlib.Core.Option.{Option, none, some}
+use Rattle.std.specs.Prelude.{Option, None, Some}
 use Prim.Native.Nat.{ℕ, zero, suc, ◌-◌, ◌≤◌, ◌<◌, max}
 use native.Mathlib.Omega.{arith}
 use lib.Dec.{eqb, leb, ltb}
@@ -45,11 +45,11 @@ module _ (node right : ℕ) (log : List ℕ) where
   owes_step n true o e d i =
       rw (owes_cancelled node right (record_at log n) (hist log n) e, at_hit tc log n e)
       (sym (le-ltb (suc n) (debt_number node right (hist log (suc n))) (number_bound td log (suc n))))
-  owes_step n false (some s) e d i =
+  owes_step n false (Some s) e d i =
       let l : cancel_number node right (hist log n) < suc n = omega (arith, number_bound tc log n) in
       rw (owes_arises node right (record_at log n) (hist log n) s e d, at_miss tc log n e, at_hit td log n (ap is_some d))
       (sym (lt-ltb (cancel_number node right (hist log n)) (suc n) l))
-  owes_step n false none e d i =
+  owes_step n false None e d i =
       rw (owes_kept node right (record_at log n) (hist log n) e d, at_miss tc log n e, at_miss td log n (ap is_some d)) i
 
   pub owes_number : (n : ℕ) → is_some (owes node right (hist log n)) ≡ ltb (cancel_number node right (hist log n)) (debt_number node right (hist log n))
@@ -70,7 +70,7 @@ module _ (node range : ℕ) (log : List ℕ) where
   -- what the code makes of the two numbers
   abbrev recorded_as : ℕ → Option ℕ
   recorded_as n = cond (ltb (refused_number node (hist log n)) (latest_number tr (hist log n)))
-      (some (record_at log (latest_number tr (hist log n) - 1)).c) none
+      (Some (record_at log (latest_number tr (hist log n) - 1)).c) None
 
   recording_apart : (x : TraceRecord) → is_kind 2 x ≡ true → is_kind 10 x ≡ false
   recording_apart x = kind_apart 2 10 x (λ q. omega arith)
@@ -78,7 +78,7 @@ module _ (node range : ℕ) (log : List ℕ) where
   recorded_step : (n : ℕ) (b k a m z : Bool) → is_by node (record_at log n) ≡ b → is_kind 2 (record_at log n) ≡ k → eqb (record_at log n).a range ≡ a
       → not (is_restated node (hist log n)) ≡ m → is_kind 10 (record_at log n) ≡ z
       → lasting (latest (tells_recorded node range) (hist log n)) ≡ recorded_as n
-      → lasting (or_else (cond b (cond (k && a && m) (some (becomes (record_at log n).c)) (when z ends)) none)
+      → lasting (or_else (cond b (cond (k && a && m) (Some (becomes (record_at log n).c)) (when z ends)) None)
       (latest (tells_recorded node range) (hist log n))) ≡ recorded_as (suc n)
   unfolding asks
   recorded_step n true true true true z eb ek ea em ez i =
@@ -128,7 +128,7 @@ module _ (node range : ℕ) (log : List ℕ) where
 
 -- ---- as of the registering
 
-reach_cases : (b : Bool) (i c : ℕ) → holds (λ (k : ℕ). leb i k) (cond b (some c) none) ≡ b && leb i c
+reach_cases : (b : Bool) (i c : ℕ) → holds (λ (k : ℕ). leb i k) (cond b (Some c) None) ≡ b && leb i c
 reach_cases true i c = refl
 reach_cases false i c = refl
 
@@ -151,7 +151,7 @@ module _ (node parent index : ℕ) (log : List ℕ) where
       → is_kind 7 (record_at log n) && eqb (record_at log n).b index ≡ k
       → is_kind 10 (record_at log n) ≡ z
       → holds (λ (t : Bool). t) (latest (tells_traced node parent index) (hist log n)) ≡ ltb (refused_number node (hist log n)) (latest_number tt' (hist log n))
-      → holds (λ (t : Bool). t) (or_else (cond (b && a && k) (some true) (when (b && z) false)) (latest (tells_traced node parent index) (hist log n)))
+      → holds (λ (t : Bool). t) (or_else (cond (b && a && k) (Some true) (when (b && z) false)) (latest (tells_traced node parent index) (hist log n)))
       ≡ ltb (refused_number node (hist log (suc n))) (latest_number tt' (hist log (suc n)))
   unfolding asks
   traced_step n true true true z eb ea ek ez i =
@@ -196,7 +196,7 @@ module _ (log : List ℕ) (t node : ℕ) (y : TraceRecord) (m : ℕ) where
   own_parent : is_kind 2 y ≡ true → y.a ≡ parent_by y
   own_parent k = rw (kind_apart 2 1 y (λ q. omega arith) k)
 
-  module _ (r : registers y (hist log t) ≡ some it) where
+  module _ (r : registers y (hist log t) ≡ Some it) where
     early_is : has_applied node (parent_by y) y.b (hist log t) || reaches node it (hist log t) ≡ traced log t node (parent_by y) y.b
         || reached log t node (parent_by y) y.b
     early_is = rw (traced_is node (parent_by y) y.b log t (registers_new y (hist log t) it r), reached_is log t node it)
@@ -233,15 +233,15 @@ module _ (log : List ℕ) (t node : ℕ) (y : TraceRecord) (m : ℕ) where
 
 -- ---- owed by one split, after n records
 
-module _ (log : List ℕ) (n node : ℕ) (s : Registered) (t : ℕ) (l : t < n) (r : registers (record_at log t) (hist log t) ≡ some s) where
+module _ (log : List ℕ) (n node : ℕ) (s : Registered) (t : ℕ) (l : t < n) (r : registers (record_at log t) (hist log t) ≡ Some s) where
   abbrev y : TraceRecord
   y = record_at log t
 
   e : split_with log y (named_number y (hist log t)) ≡ s
   e = split_is log y t s r
 
-  r' : registers y (hist log t) ≡ some (split_with log y (named_number y (hist log t)))
-  r' = r ∙ ap some (sym e)
+  r' : registers y (hist log t) ≡ Some (split_with log y (named_number y (hist log t)))
+  r' = r ∙ ap Some (sym e)
 
   -- a debt at a place above the latest cancel is owed
   debt_owes : (k : ℕ) → k < n → is_some (debt_at node s.right (record_at log k) (hist log k)) ≡ true → cancel_number node s.right (hist log n) ≤ k
@@ -292,7 +292,7 @@ pub record SplitOwing (log : List ℕ) (n node right : ℕ) : Type 0 where
   pub split : Registered
   pub at : ℕ
   pub before : at < n
-  pub is : registers (record_at log at) (hist log at) ≡ some split
+  pub is : registers (record_at log at) (hist log at) ≡ Some split
   pub its : split.right ≡ right
   pub owing : owes_split log n node at (cancel_number node right (hist log n)) ≡ true
 
@@ -310,7 +310,7 @@ module _ (log : List ℕ) (n node right : ℕ) where
       }
   by_arisen k m c (early s its r v h) =
       let e = split_is log (record_at log k) k s r in
-      let r' = r ∙ ap some (sym e) in
+      let r' = r ∙ ap Some (sym e) in
       let v' = ap (is_voter node (hist log k)) e ∙ v in
       let h' = ap (λ (z : Registered). has_applied node z.parent z.index (hist log k) || reaches node z (hist log k)) e ∙ h in
       record {
@@ -324,7 +324,7 @@ module _ (log : List ℕ) (n node right : ℕ) where
       }
   by_arisen k m c (itself s its r v b q u h) =
       let e = split_is log (record_at log k) k s r in
-      let r' = r ∙ ap some (sym e) in
+      let r' = r ∙ ap Some (sym e) in
       let v' = ap (is_voter node (hist log k)) e ∙ v in
       let h' = ap (λ (z : Registered). leb z.index (record_at log k).c) e ∙ h in
       record {

@@ -1,6 +1,5 @@
 -- The split by which a node owes, told by the number of the record that registered it.
-use Rattle.std.specs.Prelude.{◌≡◌, Bool, true, cond, ◌&&◌, ◌||◌, List, ◌∷◌, ℕ, ◌-◌, eqb, leb, ltb}
-use Rattle.std.proofs.Math.Option.{Option, none}
+use Rattle.std.specs.Prelude.{◌≡◌, Bool, true, cond, ◌&&◌, ◌||◌, List, ◌∷◌, ℕ, ◌-◌, eqb, leb, ltb, Option, None}
 use Rattle.record.specs.Records.{TraceRecord}
 use Rattle.rules.specs.History.{is_some, any_of, when, given, latest_of, greatest_of}
 use Rattle.rules.specs.RightHalf.{Registered, is_split, registered, registers}
@@ -13,7 +12,7 @@ placed_split log t = registers (record_at log t) (hist log t)
 
 -- the split that the record with the number k registered; none for 0
 abbrev pub split_at : List ℕ → ℕ → Option Registered
-split_at log k = cond (eqb k 0) none (registers (record_at log (k - 1)) (hist log (k - 1)))
+split_at log k = cond (eqb k 0) None (registers (record_at log (k - 1)) (hist log (k - 1)))
 
 -- k is the number of the record that registered a split that is looked for; 0 where there is none
 pub record Numbered (log : List ℕ) (k : ℕ) (o : Option Registered) : Type 0 where

@@ -1,6 +1,5 @@
 // The debt that a node owes a right range by: the record that registered its split. It is wanted once, at a fault.
-ghost use Rattle.std.specs.Prelude.{◌≡◌, true, cond, ◌&&◌, ◌+◌, ◌*◌, ◌≤◌, ◌<◌, max, length};
-ghost use Rattle.std.proofs.Math.Option.{some};
+ghost use Rattle.std.specs.Prelude.{◌≡◌, true, cond, ◌&&◌, ◌+◌, ◌*◌, ◌≤◌, ◌<◌, max, length, Some};
 ghost use Rattle.rules.specs.History.{is_some, holds};
 ghost use Rattle.rules.specs.RightHalf.{Registered, own_debt, debt_at, owes};
 ghost use Rattle.history.specs.Logs.{hist, record_at};
@@ -240,7 +239,7 @@ pub fn debt_of(
 ) -> usize
     requires { Bounds log.now work.now count cap }
     ensures within { result ≤ count }
-    ensures owed { Known cap (hist log.now count) work.now → (s : Registered) → owes node.0 right (hist log.now count) ≡ some s → split_at log.now result ≡ some s }
+    ensures owed { Known cap (hist log.now count) work.now → (s : Registered) → owes node.0 right (hist log.now count) ≡ Some s → split_at log.now result ≡ Some s }
 {
     let mut i = count;
     while 0 < i {

@@ -2,7 +2,7 @@
 use mathlib.Core.Path.{◌≡◌, refl, sym, ap, ◌∙◌}
 use mathlib.Core.Bool.{Bool, true, false, cond, not, ◌&&◌, ◌||◌, and-false}
 use mathlib.Core.List.{List, [], ◌∷◌}
-use mathlib.Core.Option.{Option, none, some}
+use Rattle.std.specs.Prelude.{Option, None, Some}
 use mathlib.Core.Logic.{⊎_elim}
 use Prim.Native.Nat.{ℕ, ◌≤◌, ◌<◌}
 use native.Mathlib.Omega.{arith}
@@ -34,8 +34,8 @@ unfolding ahead_fault ahead_in
 ahead_by s vs = refl
 
 is_ahead : (s : Entry) (o : Option Entry) → is_fault (case_of (λ (v : Entry). fault 2 (s.range ∷ s.index ∷ v.index ∷ [])) o) ≡ is_some o
-is_ahead s none = refl
-is_ahead s (some v) = refl
+is_ahead s None = refl
+is_ahead s (Some v) = refl
 
 ahead_fault_lem : (s : Entry) (vs : List Entry) → is_fault (ahead_fault s vs) ≡ is_some (ahead_in s vs)
 ahead_fault_lem s vs = rw (ahead_by s vs) (is_ahead s (ahead_in s vs))
@@ -53,10 +53,10 @@ not_clear c e = ap is_fault e
 equal_ltb : {m n : ℕ} → m ≡ n → ltb m n ≡ false
 equal_ltb {m} {n} e = le-ltb m n (omega arith)
 
-is_none : (o : Option Entry) (n : Entry) → o ≡ some n → is_some o ≡ false → ⊥
+is_none : (o : Option Entry) (n : Entry) → o ≡ Some n → is_some o ≡ false → ⊥
 is_none o n e f = never (ap is_some e) f
 
-holds_some : (t : Entry → Bool) (o : Option Entry) (n : Entry) → o ≡ some n → holds t o ≡ t n
+holds_some : (t : Entry → Bool) (o : Option Entry) (n : Entry) → o ≡ Some n → holds t o ≡ t n
 holds_some t o n e = ap (holds t) e
 
 module _ (p : Entry) (vs : List Entry) (s : Entry) (k : statement_fault vs s ≡ Clear) (r : s.range ≡ p.range) where
@@ -72,8 +72,8 @@ module _ (p : Entry) (vs : List Entry) (s : Entry) (k : statement_fault vs s ≡
     above_go : (o : Option Entry) → last_in p vs ≡ o → s.held.generation ≡ p.held.generation → is_some (ahead_in s vs) ≡ false
         → holds (λ (v : Entry). ltb s.index v.index) o ≡ true → ⊥
     unfolding last_in ahead_in
-    above_go none e g f h = never h refl
-    above_go (some w) e g f h =
+    above_go None e g f h = never h refl
+    above_go (Some w) e g f h =
         let i = greatest_meets (λ v. v.index) (λ v. eqb v.range p.range && eqb v.held.generation p.held.generation) {xs = vs} {r = w} e in
         let a : w.range ≡ s.range = eqb-true _ _ (and_left (eqb w.range p.range) (eqb w.held.generation p.held.generation) i.place.passes)
         ∙ sym r in
@@ -101,9 +101,9 @@ module _ (p : Entry) (vs : List Entry) (s : Entry) (k : statement_fault vs s ≡
     behind_go : (o : Option Entry) → case_of (fault_by s (ahead_fault s vs)) o ≡ Clear → (g : Bool) → eqb s.held.generation p.held.generation ≡ g
         → is_fault (case_of (fault_by s (ahead_fault s (p ∷ vs))) o)
         ≡ g && not (holds (λ (v : Entry). ltb s.index v.index) (last_in p vs)) && holds (λ (v : Entry). ltb v.held.generation s.held.generation) o
-    behind_go none c g q = sym (and-false (g && not (holds (λ (v : Entry). ltb s.index v.index) (last_in p vs))))
-    behind_go (some v) c false q = rw (ahead_old (eqb-false _ _ q)) (not_clear (fault_by s (ahead_fault s vs) v) c)
-    behind_go (some v) c true q =
+    behind_go None c g q = sym (and-false (g && not (holds (λ (v : Entry). ltb s.index v.index) (last_in p vs))))
+    behind_go (Some v) c false q = rw (ahead_old (eqb-false _ _ q)) (not_clear (fault_by s (ahead_fault s vs) v) c)
+    behind_go (Some v) c true q =
         let g : s.held.generation ≡ p.held.generation = eqb-true _ _ q in
         rw (fault_by_lem s v (ahead_fault s (p ∷ vs)), ahead_new g)
         (behind (held_eqb v.held s.held) (ltb v.held.generation s.held.generation) (is_fault (ahead_fault s vs))
@@ -117,7 +117,7 @@ module _ (p : Entry) (vs : List Entry) (s : Entry) (k : statement_fault vs s ≡
     falls_behind_lem = rw (statement_by (p ∷ vs) s, below_at) (behind_go (at_in s.range s.index vs) old (eqb s.held.generation p.held.generation) refl)
 
     -- the case of one that falls behind: the new value is what is ahead of it
-    old_ahead : (v : Entry) → fault_by s (ahead_fault s vs) v ≡ Clear → ltb v.held.generation s.held.generation ≡ true → ahead_in s vs ≡ none
+    old_ahead : (v : Entry) → fault_by s (ahead_fault s vs) v ≡ Clear → ltb v.held.generation s.held.generation ≡ true → ahead_in s vs ≡ None
     unfolding fault_by
     old_ahead v c t =
         let d : held_eqb v.held s.held ≡ false =
@@ -125,7 +125,7 @@ module _ (p : Entry) (vs : List Entry) (s : Entry) (k : statement_fault vs s ≡
         let a : ahead_fault s vs ≡ Clear = rw (d, t) at c in
         none_of (ahead_in s vs) (sym (ahead_fault_lem s vs) ∙ ap is_fault a)
 
-    ahead_first : s.held.generation ≡ p.held.generation → ahead_in s vs ≡ none → ahead_fault s (p ∷ vs) ≡ fault 2 (s.range ∷ s.index ∷ p.index ∷ [])
+    ahead_first : s.held.generation ≡ p.held.generation → ahead_in s vs ≡ None → ahead_fault s (p ∷ vs) ≡ fault 2 (s.range ∷ s.index ∷ p.index ∷ [])
     unfolding ahead_in lowest_of
     ahead_first g e =
         ahead_by s (p ∷ vs)
@@ -135,8 +135,8 @@ module _ (p : Entry) (vs : List Entry) (s : Entry) (k : statement_fault vs s ≡
         → holds (λ (v : Entry). ltb v.held.generation s.held.generation) o ≡ true
         → case_of (fault_by s (ahead_fault s (p ∷ vs))) o ≡ fault 2 (s.range ∷ s.index ∷ p.index ∷ [])
     unfolding fault_by
-    behind_case_go none c g t = never t refl
-    behind_case_go (some v) c g t =
+    behind_case_go None c g t = never t refl
+    behind_case_go (Some v) c g t =
         let d : held_eqb v.held s.held ≡ false =
         ⊎_elim (λ e. never t (equal_ltb (held_same v.held s.held e).generation)) (λ e. e) (decide (held_eqb v.held s.held)) in
         rw (d, t) (ahead_first g (old_ahead v c t))
@@ -164,8 +164,8 @@ module _ (p : Entry) (vs : List Entry) (s : Entry) (k : statement_fault vs s ≡
     between : (o : Option Entry) → next_in p vs ≡ o → holds (λ (v : Entry). leb v.index s.index) o ≡ true
         → at_in s.range s.index (p ∷ vs) ≡ at_in s.range s.index vs
     unfolding next_in at_in
-    between none e h = never h refl
-    between (some n) e h =
+    between None e h = never h refl
+    between (Some n) e h =
         let i = lowest_meets (λ v. v.index) (λ v. eqb v.range p.range && ltb p.index v.index) {xs = vs} {r = n} e in
         let a : n.range ≡ s.range = eqb-true _ _ (and_left (eqb n.range p.range) (ltb p.index n.index) i.place.passes) ∙ sym r in
         let m : p.index < n.index = ltb-true _ _ (and_right (eqb n.range p.range) (ltb p.index n.index) i.place.passes) in
@@ -175,10 +175,10 @@ module _ (p : Entry) (vs : List Entry) (s : Entry) (k : statement_fault vs s ≡
 
     -- none between: it is judged by the new value
     next_go : (o : Option Entry) → at_in s.range s.index vs ≡ o → holds (λ (v : Entry). leb v.index s.index) (next_in p vs) ≡ false
-        → greater (λ (v : Entry). v.index) p o ≡ some p
+        → greater (λ (v : Entry). v.index) p o ≡ Some p
     unfolding next_in at_in
-    next_go none e h = refl
-    next_go (some y) e h =
+    next_go None e h = refl
+    next_go (Some y) e h =
         let i = greatest_meets (λ v. v.index) (λ v. eqb v.range s.range && leb v.index s.index) {xs = vs} {r = y} e in
         let a : y.range ≡ p.range = eqb-true _ _ (and_left (eqb y.range s.range) (leb y.index s.index) i.place.passes) ∙ r in
         let m : y.index ≤ s.index = leb-true _ _ (and_right (eqb y.range s.range) (leb y.index s.index) i.place.passes) in
@@ -270,7 +270,7 @@ module _ (x : TraceRecord) (h : History) (k : agreement h ≡ Clear) (i : ℕ) (
       (new_faulty_lem p (standing h) free) (stated h) (stated_clear h k))
 
   -- what it is where one was found
-  pub agreement_found : (s : Entry) → earliest_of (new_faulty (entry_at i x h) (standing h)) (stated h) ≡ some s
+  pub agreement_found : (s : Entry) → earliest_of (new_faulty (entry_at i x h) (standing h)) (stated h) ≡ Some s
       → agreement (x ∷ h)
       ≡ cond (ltb s.index i) (fault 2 (s.range ∷ s.index ∷ i ∷ [])) (differs_fault s (standing h) (entry_at i x h))
   agreement_found s e =
@@ -280,5 +280,5 @@ module _ (x : TraceRecord) (h : History) (k : agreement h ≡ Clear) (i : ℕ) (
       ∙ new_case p (standing h) free s (found_clear (statement_fault (standing h)) (new_faulty p (standing h)) (stated h) s (stated_clear h k) e)
       (earliest_meets (new_faulty p (standing h)) {xs = stated h} {r = s} e).place.passes
 
-  pub agreement_none : earliest_of (new_faulty (entry_at i x h) (standing h)) (stated h) ≡ none → agreement (x ∷ h) ≡ Clear
+  pub agreement_none : earliest_of (new_faulty (entry_at i x h) (standing h)) (stated h) ≡ None → agreement (x ∷ h) ≡ Clear
   agreement_none e = agreement_put ∙ ap (case_of (statement_fault (entry_at i x h ∷ standing h))) e

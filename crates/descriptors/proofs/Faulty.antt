@@ -2,7 +2,7 @@
 use mathlib.Core.Path.{◌≡◌, refl, sym, ap, ◌∙◌}
 use mathlib.Core.Bool.{Bool, true, false, cond, ◌&&◌, and-true}
 use mathlib.Core.List.{List, [], ◌∷◌}
-use mathlib.Core.Option.{Option, none, some}
+use Rattle.std.specs.Prelude.{Option, None, Some}
 use Prim.Native.Nat.{ℕ, zero, suc, ◌+◌, ◌-◌, ◌≤◌, ◌<◌}
 use native.Mathlib.Omega.{arith}
 use lib.Dec.{eqb, ltb}
@@ -29,14 +29,14 @@ use Rattle.descriptors.proofs.Judged.{differs_is}
 use Rattle.descriptors.proofs.Walks.{statement_suc}
 use Rattle.descriptors.proofs.Agreement.{agreement_found, agreement_none}
 
-stated_bucket_lem : (cap range : ℕ) (x : TraceRecord) (h : History) (v : Entry) → tells_stated x h ≡ some v → v.range ≡ range
-    → stated_bucket cap x h ≡ some (bucket_by cap range)
+stated_bucket_lem : (cap range : ℕ) (x : TraceRecord) (h : History) (v : Entry) → tells_stated x h ≡ Some v → v.range ≡ range
+    → stated_bucket cap x h ≡ Some (bucket_by cap range)
 unfolding stated_bucket
 stated_bucket_lem cap range x h v e r = rw (e, r)
 
-else_none : (o : Option Entry) → or_else o none ≡ o
-else_none none = refl
-else_none (some v) = refl
+else_none : (o : Option Entry) → or_else o None ≡ o
+else_none None = refl
+else_none (Some v) = refl
 
 module _ (cap range : ℕ) (log : List ℕ) (q : Entry → Bool) where
   -- the earliest of the rest, or else the best so far
@@ -57,7 +57,7 @@ module _ (cap range : ℕ) (log : List ℕ) (q : Entry → Bool) where
   unfolding stated
   stated_hit i l m = told_found tells_stated log l (in_stated cap log (i - 1) m)
 
-  chosen_go : (i best : ℕ) (t : Bool) → cond t (some (stated_entry log (i - 1))) (statement log best) ≡ statement log (cond t (i - 1 + 1) best)
+  chosen_go : (i best : ℕ) (t : Bool) → cond t (Some (stated_entry log (i - 1))) (statement log best) ≡ statement log (cond t (i - 1 + 1) best)
   chosen_go i best true = sym (statement_suc log (i - 1))
   chosen_go i best false = refl
 
@@ -67,7 +67,7 @@ module _ (cap range : ℕ) (log : List ℕ) (q : Entry → Bool) where
       e ∙ ap (λ (ss : List Entry). or_else (earliest_of q ss) (statement log best)) (stated_hit i l m)
       ∙ (earliest_turns q).turn (statement log best) (stated_entry log (i - 1)) (stated (hist log (i - 1)))
       ∙ ap (or_else (earliest_of q (stated (hist log (i - 1)))))
-      (ap (λ (b : Bool). cond b (some (stated_entry log (i - 1))) (statement log best)) (sym w) ∙ chosen_go i best t ∙ ap (statement log) (sym z))
+      (ap (λ (b : Bool). cond b (Some (stated_entry log (i - 1))) (statement log best)) (sym w) ∙ chosen_go i best t ∙ ap (statement log) (sym z))
 
   pub earliest_done : (best i : ℕ) {x : Option Entry} → i ≡ 0 → x ≡ Earliest best i → statement log best ≡ x
   unfolding stated earliest_of
@@ -105,12 +105,12 @@ last_is x h index vs {ra} {rd} a d e =
 
 -- ---- the case of a new value
 
-statement_none : (log : List ℕ) (n : ℕ) {o : Option Entry} → n ≡ 0 → statement log n ≡ o → o ≡ none
+statement_none : (log : List ℕ) (n : ℕ) {o : Option Entry} → n ≡ 0 → statement log n ≡ o → o ≡ None
 statement_none log n z e = sym e ∙ ap (statement log) z
 
-statement_some : (log : List ℕ) (n : ℕ) {o : Option Entry} → (n ≡ 0 → ⊥) → statement log n ≡ o → o ≡ some (stated_entry log (n - 1))
+statement_some : (log : List ℕ) (n : ℕ) {o : Option Entry} → (n ≡ 0 → ⊥) → statement log n ≡ o → o ≡ Some (stated_entry log (n - 1))
 statement_some log zero z e = absurd (z refl)
-statement_some log (suc k) z e = let q : suc k - 1 ≡ k = omega arith in sym e ∙ ap (λ (j : ℕ). some (stated_entry log j)) (sym q)
+statement_some log (suc k) z e = let q : suc k - 1 ≡ k = omega arith in sym e ∙ ap (λ (j : ℕ). Some (stated_entry log j)) (sym q)
 
 module _ (log : List ℕ) (n : ℕ) (x : TraceRecord) (h : History) (index : ℕ) (role : role_of x h ≡ puts index)
     (free : any_of (same_place (entry_at index x h)) (standing h) ≡ false) (k : agreement h ≡ Clear)

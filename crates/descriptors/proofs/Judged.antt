@@ -2,7 +2,7 @@
 use mathlib.Core.Path.{◌≡◌, refl, sym, ap, ◌∙◌}
 use mathlib.Core.Bool.{true, false, not, ◌&&◌}
 use mathlib.Core.List.{List, [], ◌∷◌}
-use mathlib.Core.Option.{Option, none, some}
+use Rattle.std.specs.Prelude.{Option, None, Some}
 use Prim.Native.Nat.{ℕ, zero, suc, ◌-◌, ◌≤◌, ◌<◌}
 use native.Mathlib.Omega.{arith}
 use lib.Dec.{eqb, ltb}
@@ -25,18 +25,18 @@ use Rattle.descriptors.specs.Answers.{at_place, up_to, greatest_up_to, above, lo
 use Rattle.descriptors.proofs.Found.{at_up_to}
 
 -- a number is none, or a record's
-pub put_none : (log : List ℕ) (n : ℕ) {o : Option Entry} → n ≡ 0 → put log n ≡ o → o ≡ none
+pub put_none : (log : List ℕ) (n : ℕ) {o : Option Entry} → n ≡ 0 → put log n ≡ o → o ≡ None
 put_none log n z e = sym e ∙ ap (put log) z
 
-pub put_some : (log : List ℕ) (n : ℕ) → (n ≡ 0 → ⊥) → put log n ≡ some (put_entry log (n - 1))
+pub put_some : (log : List ℕ) (n : ℕ) → (n ≡ 0 → ⊥) → put log n ≡ Some (put_entry log (n - 1))
 put_some log zero z = absurd (z refl)
-put_some log (suc k) z = let e : suc k - 1 ≡ k = omega arith in ap (λ (j : ℕ). some (put_entry log j)) (sym e)
+put_some log (suc k) z = let e : suc k - 1 ≡ k = omega arith in ap (λ (j : ℕ). Some (put_entry log j)) (sym e)
 
 pub put_is_some : (log : List ℕ) (n : ℕ) {o : Option Entry} → put log n ≡ o → not (eqb n 0) ≡ is_some o
 put_is_some log zero e = ap is_some e
 put_is_some log (suc k) e = ap not (ne_eqb (suc k) 0 (λ z. omega arith)) ∙ ap is_some e
 
-found_some_at : (log : List ℕ) (n : ℕ) {o : Option Entry} → (n ≡ 0 → ⊥) → put log n ≡ o → o ≡ some (put_entry log (n - 1))
+found_some_at : (log : List ℕ) (n : ℕ) {o : Option Entry} → (n ≡ 0 → ⊥) → put log n ≡ o → o ≡ Some (put_entry log (n - 1))
 found_some_at log n z e = sym e ∙ put_some log n z
 
 -- what is ahead of a statement
@@ -93,11 +93,11 @@ module _ (log : List ℕ) (n : ℕ) (x : TraceRecord) (h : History) (index : ℕ
       rw (p, q, record_bytes log (n - 1) b) (sym (ap (holds (λ (v : Entry). ltb v.held.generation d)) (found_some_at log n z found_at_lem)))
 
 -- where the range has no value of a generation, none is above
-module _ (range generation : ℕ) (vs : List Entry) (f : first_at_generation_in range generation vs ≡ none) where
-  taken_go : (index : ℕ) (o : Option Entry) → lowest_above range index false generation vs ≡ o → o ≡ none
+module _ (range generation : ℕ) (vs : List Entry) (f : first_at_generation_in range generation vs ≡ None) where
+  taken_go : (index : ℕ) (o : Option Entry) → lowest_above range index false generation vs ≡ o → o ≡ None
   unfolding first_at_generation_in
-  taken_go index none e = refl
-  taken_go index (some z) e =
+  taken_go index None e = refl
+  taken_go index (Some z) e =
       let i = lowest_meets (λ v. v.index) (above range index false generation) {xs = vs} {r = z} e in
       let a : eqb z.range range && ltb index z.index ≡ true = and_left _ (eqb z.held.generation generation) i.place.passes in
       let t : eqb z.range range && eqb z.held.generation generation ≡ true =
@@ -106,15 +106,15 @@ module _ (range generation : ℕ) (vs : List Entry) (f : first_at_generation_in 
       let w = earliest_passing (λ v. eqb v.range range && eqb v.held.generation generation) (placed_mem i.place) t in
       none_some (sym f ∙ w.1)
 
-  none_taken : (index : ℕ) → lowest_above range index false generation vs ≡ none
+  none_taken : (index : ℕ) → lowest_above range index false generation vs ≡ None
   none_taken index = taken_go index (lowest_above range index false generation vs) refl
 
 -- nor a greatest
-module _ (range generation : ℕ) (vs : List Entry) (f : first_at_generation_in range generation vs ≡ none) where
-  last_go : (o : Option Entry) → greatest_up_to range true 0 false generation vs ≡ o → o ≡ none
+module _ (range generation : ℕ) (vs : List Entry) (f : first_at_generation_in range generation vs ≡ None) where
+  last_go : (o : Option Entry) → greatest_up_to range true 0 false generation vs ≡ o → o ≡ None
   unfolding first_at_generation_in
-  last_go none e = refl
-  last_go (some z) e =
+  last_go None e = refl
+  last_go (Some z) e =
       let i = greatest_meets (λ v. v.index) (up_to range true 0 false generation) {xs = vs} {r = z} e in
       let a : eqb z.range range && true ≡ true = and_left _ (eqb z.held.generation generation) i.place.passes in
       let t : eqb z.range range && eqb z.held.generation generation ≡ true =
@@ -122,7 +122,7 @@ module _ (range generation : ℕ) (vs : List Entry) (f : first_at_generation_in 
       let w = earliest_passing (λ v. eqb v.range range && eqb v.held.generation generation) (placed_mem i.place) t in
       none_some (sym f ∙ w.1)
 
-  none_last : greatest_up_to range true 0 false generation vs ≡ none
+  none_last : greatest_up_to range true 0 false generation vs ≡ None
   none_last = last_go (greatest_up_to range true 0 false generation vs) refl
 
 pub no_last : (log : List ℕ) (n range generation : ℕ) (h : History) → n ≡ 0 → put log n ≡ first_at_generation range generation h
@@ -134,7 +134,7 @@ pub not_taken : (log : List ℕ) (n : ℕ) (h : History) {ra rd range generation
     → put log n ≡ first_at_generation ra rd h → false ≡ is_some (lowest_above range index false generation (standing h))
 unfolding first_at_generation
 not_taken log n h {ra} {rd} {range} {generation} index z a d e =
-    let q : first_at_generation_in ra rd (standing h) ≡ none = put_none log n z e in
+    let q : first_at_generation_in ra rd (standing h) ≡ None = put_none log n z e in
     sym (ap is_some (none_taken range generation (standing h) (rw (a, d) at q) index))
 
 pub is_taken : (log : List ℕ) (n : ℕ) {ra rd range generation : ℕ} (index : ℕ) (vs : List Entry) → ra ≡ range → rd ≡ generation

@@ -2,7 +2,7 @@
 use mathlib.Core.Path.{◌≡◌, refl, sym, ap, ◌∙◌}
 use mathlib.Core.Bool.{Bool, true, false, cond, not, ◌&&◌, ◌||◌, not-not}
 use mathlib.Core.List.{List, [], ◌∷◌}
-use mathlib.Core.Option.{Option, none, some}
+use Rattle.std.specs.Prelude.{Option, None, Some}
 use mathlib.Core.Logic.{◌⊎◌, inl, inr}
 use Prim.Native.Nat.{ℕ, suc, ◌+◌, ◌-◌, ◌*◌, ◌/◌, ◌%◌, ◌≤◌, ◌<◌}
 use native.Mathlib.Omega.{arith}
@@ -38,28 +38,28 @@ use Rattle.descriptors.proofs.Judged.{put_is_some}
 -- ---- what a record is told to be
 
 module _ (x : TraceRecord) (h : History) (i : ℕ) (role : role_of x h ≡ puts i) where
-  tells_put_lem : tells_put x h ≡ some (entry_at i x h)
+  tells_put_lem : tells_put x h ≡ Some (entry_at i x h)
   tells_put_lem = rw role
 
-  tells_no : tells_stated x h ≡ none
+  tells_no : tells_stated x h ≡ None
   tells_no = rw role
 
-  new_by : new_value x h ≡ cond (any_of (same_place (entry_at i x h)) (standing h)) none (some (entry_at i x h))
+  new_by : new_value x h ≡ cond (any_of (same_place (entry_at i x h)) (standing h)) None (Some (entry_at i x h))
   unfolding new_value
   new_by = rw tells_put_lem
 
   first_by : any_of (same_place (entry_at i x h)) (standing h) ≡ false
-      → first_value x h ≡ cond (any_of (same_generation (entry_at i x h)) (standing h)) none (some (entry_at i x h))
+      → first_value x h ≡ cond (any_of (same_generation (entry_at i x h)) (standing h)) None (Some (entry_at i x h))
   unfolding first_value
   first_by f = rw (new_by, f)
 
-  new_no : any_of (same_place (entry_at i x h)) (standing h) ≡ true → new_value x h ≡ none
+  new_no : any_of (same_place (entry_at i x h)) (standing h) ≡ true → new_value x h ≡ None
   new_no f = new_by ∙ rw f
 
-  new_yes : any_of (same_place (entry_at i x h)) (standing h) ≡ false → new_value x h ≡ some (entry_at i x h)
+  new_yes : any_of (same_place (entry_at i x h)) (standing h) ≡ false → new_value x h ≡ Some (entry_at i x h)
   new_yes f = new_by ∙ rw f
 
-  first_no : any_of (same_place (entry_at i x h)) (standing h) ≡ true → first_value x h ≡ none
+  first_no : any_of (same_place (entry_at i x h)) (standing h) ≡ true → first_value x h ≡ None
   unfolding first_value
   first_no f = rw (new_by, f)
 
@@ -82,7 +82,7 @@ module _ (x : TraceRecord) (h : History) (i : ℕ) (role : role_of x h ≡ puts 
     rises = sym (rising_no f);
   })
 
-  not_some : (b : Bool) → is_some (cond b none (some (entry_at i x h))) ≡ not b
+  not_some : (b : Bool) → is_some (cond b None (Some (entry_at i x h))) ≡ not b
   not_some true = refl
   not_some false = refl
 
@@ -128,15 +128,15 @@ told_neither x h role e = rw e (record { puts = rw role; states = rw role; stand
 -- ---- the buckets of a record, by what it is told to be
 
 module _ (x : TraceRecord) (h : History) {v : Entry} where
-  put_range : tells_put x h ≡ some v → v.range ≡ x.a
+  put_range : tells_put x h ≡ Some v → v.range ≡ x.a
   put_range e = ap (λ (u : Entry). u.range) (puts_entry x h e)
 
-  stated_range : tells_stated x h ≡ some v → v.range ≡ x.a
+  stated_range : tells_stated x h ≡ Some v → v.range ≡ x.a
   stated_range e = ap (λ (u : Entry). u.range) (states_entry x h e)
 
-when_go : (o : Option Entry) (f : Entry → ℕ) (b : ℕ) → ((v : Entry) → o ≡ some v → f v ≡ b) → given (λ v. some (f v)) o ≡ when (is_some o) b
-when_go none f b e = refl
-when_go (some v) f b e = ap some (e v refl)
+when_go : (o : Option Entry) (f : Entry → ℕ) (b : ℕ) → ((v : Entry) → o ≡ Some v → f v ≡ b) → given (λ v. Some (f v)) o ≡ when (is_some o) b
+when_go None f b e = refl
+when_go (Some v) f b e = ap Some (e v refl)
 
 module _ (cap : ℕ) (x : TraceRecord) (h : History) where
   standing_when : standing_bucket cap x h ≡ when (is_some (new_value x h)) (bucket_by cap x.a)
@@ -156,7 +156,7 @@ module _ (cap : ℕ) (x : TraceRecord) (h : History) where
   generation_when =
       when_go (first_value x h) (λ v. bucket_by_two cap v.range v.held.generation) (bucket_by_two cap x.a x.d)
       (λ v e.
-      let p : tells_put x h ≡ some v = new_puts x h (first_new x h e) in
+      let p : tells_put x h ≡ Some v = new_puts x h (first_new x h e) in
       let a : v.range ≡ x.a = put_range x h p in
       let d : v.held.generation ≡ x.d = put_generation x h p in
       rw (a, d))

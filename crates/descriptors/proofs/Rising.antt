@@ -3,7 +3,7 @@
 use mathlib.Core.Path.{◌≡◌, refl, sym, ap, ◌∙◌}
 use mathlib.Core.Bool.{Bool, true, false, cond, not, ◌&&◌, ◌||◌}
 use mathlib.Core.List.{List, [], ◌∷◌}
-use mathlib.Core.Option.{Option, none, some}
+use Rattle.std.specs.Prelude.{Option, None, Some}
 use mathlib.Core.Logic.{⊎_elim}
 use Prim.Native.Nat.{ℕ, suc, ◌+◌, ◌*◌, ◌≤◌, ◌<◌}
 use native.Mathlib.Omega.{arith}
@@ -36,8 +36,8 @@ unfolding counts_of statements is_empty
 counts_by h = refl
 
 few_go : (o : Option Entry) (ss : List Entry) (n : ℕ) → length ss ≤ n → length (add_some o ss) ≤ suc n
-few_go none ss n l = omega arith
-few_go (some v) ss n l = omega arith
+few_go None ss n l = omega arith
+few_go (Some v) ss n l = omega arith
 
 few : (h : History) → length (stated h) ≤ length h
 unfolding stated told
@@ -53,30 +53,30 @@ counts_bound h = ⊎_elim (λ t. go true t) (λ t. go false t) (decide (eqb (len
 
 -- ---- a list in which nothing of p's range is at an index not below p's
 
-greater_last : (o : Option Entry) → greater_of (λ v. v.index) o none ≡ o
+greater_last : (o : Option Entry) → greater_of (λ v. v.index) o None ≡ o
 unfolding greater_of
-greater_last none = refl
-greater_last (some v) = refl
+greater_last None = refl
+greater_last (Some v) = refl
 
-lower_last : (o : Option Entry) → lower_of (λ v. v.index) o none ≡ o
+lower_last : (o : Option Entry) → lower_of (λ v. v.index) o None ≡ o
 unfolding lower_of
-lower_last none = refl
-lower_last (some v) = refl
+lower_last None = refl
+lower_last (Some v) = refl
 
 module _ (p : Entry) (vs : List Entry) (n : any_of (not_below p) vs ≡ false) where
-  latest_none : (q : Entry → Bool) → ((v : Entry) → q v ≡ true → not_below p v ≡ true) → latest_of q vs ≡ none
+  latest_none : (q : Entry → Bool) → ((v : Entry) → q v ≡ true → not_below p v ≡ true) → latest_of q vs ≡ None
   latest_none q i = none_latest q vs (any_of_none q vs (any_of_less (not_below p) q i vs n))
 
-  lowest_none : (q : Entry → Bool) → ((v : Entry) → q v ≡ true → not_below p v ≡ true) → lowest_of (λ v. v.index) q vs ≡ none
+  lowest_none : (q : Entry → Bool) → ((v : Entry) → q v ≡ true → not_below p v ≡ true) → lowest_of (λ v. v.index) q vs ≡ None
   lowest_none q i = go (lowest_of (λ v. v.index) q vs) refl
     where
-      go : (o : Option Entry) → lowest_of (λ v. v.index) q vs ≡ o → o ≡ none
-      go none e = refl
-      go (some z) e =
+      go : (o : Option Entry) → lowest_of (λ v. v.index) q vs ≡ o → o ≡ None
+      go None e = refl
+      go (Some z) e =
           let w = lowest_meets (λ v. v.index) q {xs = vs} {r = z} e in never (any_of_mem (not_below p) (placed_mem w.place) (i z w.place.passes)) n
 
   -- the greatest of it does not come up to p
-  greatest_less : (q : Entry → Bool) → ((v : Entry) → q v ≡ true → v.range ≡ p.range) → (z : Entry) → greatest_of (λ v. v.index) q vs ≡ some z
+  greatest_less : (q : Entry → Bool) → ((v : Entry) → q v ≡ true → v.range ≡ p.range) → (z : Entry) → greatest_of (λ v. v.index) q vs ≡ Some z
       → z.index < p.index
   greatest_less q i z e =
       let w = greatest_meets (λ v. v.index) q {xs = vs} {r = z} e in
@@ -85,11 +85,11 @@ module _ (p : Entry) (vs : List Entry) (n : any_of (not_below p) vs ≡ false) w
       (λ t. leb-false p.index z.index t)
       (decide (leb p.index z.index))
 
-  keep_go : (o r : Option Entry) → ((z : Entry) → r ≡ some z → z.index < p.index)
-      → greater_of (λ v. v.index) (greater_of (λ v. v.index) o (some p)) r ≡ greater_of (λ v. v.index) o (some p)
-  keep_go o none l = greater_last (greater_of (λ v. v.index) o (some p))
-  keep_go none (some z) l = rw (greater_none (λ v. v.index) (some p)) (greater_keep (λ v. v.index) {w = p} {v = z} (l z refl))
-  keep_go (some u) (some z) l =
+  keep_go : (o r : Option Entry) → ((z : Entry) → r ≡ Some z → z.index < p.index)
+      → greater_of (λ v. v.index) (greater_of (λ v. v.index) o (Some p)) r ≡ greater_of (λ v. v.index) o (Some p)
+  keep_go o None l = greater_last (greater_of (λ v. v.index) o (Some p))
+  keep_go None (Some z) l = rw (greater_none (λ v. v.index) (Some p)) (greater_keep (λ v. v.index) {w = p} {v = z} (l z refl))
+  keep_go (Some u) (Some z) l =
       elim (dec_lt p.index u.index) [
         | yes m ↦ rw (greater_keep (λ v. v.index) {w = u} {v = p} m) (greater_keep (λ v. v.index) {w = u} {v = z} (omega (arith, l z refl)))
         | no m ↦ rw (greater_take (λ v. v.index) {w = u} {v = p} (omega arith)) (greater_keep (λ v. v.index) {w = p} {v = z} (l z refl))
@@ -97,7 +97,7 @@ module _ (p : Entry) (vs : List Entry) (n : any_of (not_below p) vs ≡ false) w
 
   -- the best so far, p among it, stays the greatest
   greatest_kept : (q : Entry → Bool) → ((v : Entry) → q v ≡ true → v.range ≡ p.range) → (o : Option Entry)
-      → greater_of (λ v. v.index) (greater_of (λ v. v.index) o (some p)) (greatest_of (λ v. v.index) q vs) ≡ greater_of (λ v. v.index) o (some p)
+      → greater_of (λ v. v.index) (greater_of (λ v. v.index) o (Some p)) (greatest_of (λ v. v.index) q vs) ≡ greater_of (λ v. v.index) o (Some p)
   greatest_kept q i o = keep_go o (greatest_of (λ v. v.index) q vs) (greatest_less q i)
 
 -- ---- a marked record
@@ -118,19 +118,19 @@ module _ (cap : ℕ) (log work : List ℕ) (n k : ℕ) {b : ℕ} (l : k < n) (m 
   older_below : leb 16384 (get_or work (counts * cap + k) 0) ≡ true → any_of (not_below (put_entry log k)) (standing (hist log k)) ≡ false
   unfolding is_rising
   older_below h =
-      let r : holds (λ p. not (any_of (not_below p) (standing (hist log k)))) (some (put_entry log k)) ≡ true =
+      let r : holds (λ p. not (any_of (not_below p) (standing (hist log k)))) (Some (put_entry log k)) ≡ true =
       rw (in_standing cap log k i) at (rising_at h) in
       not-true (any_of (not_below (put_entry log k)) (standing (hist log k))) r
 
   -- the walk to the greatest stops at one that passes
   pub greatest_stop : (range : ℕ) (p : Entry → Bool) (best best' : ℕ) {x : Option Entry} {t u : Bool} → ((v : Entry) → p v ≡ true → v.range ≡ range)
       → t ≡ p (put_entry log k) → u ≡ leb 16384 (get_or work (counts * cap + k) 0) → t && u ≡ true
-      → put log best' ≡ cond t (greater_of (λ v. v.index) (put log best) (some (put_entry log k))) (put log best)
+      → put log best' ≡ cond t (greater_of (λ v. v.index) (put log best) (Some (put_entry log k))) (put log best)
       → x ≡ Greatest cap range log p best' k → put log best' ≡ x
   greatest_stop range p best best' {x} {t} {u} r e f h q w =
       let a : t ≡ true = and_left t u h in
       let c : (put_entry log k).range ≡ range = r (put_entry log k) (sym e ∙ a) in
-      let z : put log best' ≡ greater_of (λ v. v.index) (put log best) (some (put_entry log k)) = q ∙ rw a in
+      let z : put log best' ≡ greater_of (λ v. v.index) (put log best) (Some (put_entry log k)) = q ∙ rw a in
       sym (w ∙ ap (λ (o : Option Entry). greater_of (λ v. v.index) o (greatest_of (λ v. v.index) p (standing (hist log k)))) z
       ∙ greatest_kept (put_entry log k) (standing (hist log k)) (older_below (sym f ∙ and_right t u h)) p (λ v y. r v y ∙ sym c) (put log best)
       ∙ sym z)
@@ -158,7 +158,7 @@ module _ (cap : ℕ) (log work : List ℕ) (n k : ℕ) {b : ℕ} (l : k < n) (m 
     not_below_lem v r l =
         both (eq-eqb v.range (record_at log k).a (r ∙ sym stop_range)) (le-leb (record_at log k).b v.index (omega (arith, stop_index, l)))
 
-    pub place_stop : latest_of (at_place range index) (standing (hist log k)) ≡ none
+    pub place_stop : latest_of (at_place range index) (standing (hist log k)) ≡ None
     place_stop =
         latest_none (put_entry log k) (standing (hist log k)) stop_older (at_place range index)
         (λ v y.
@@ -197,8 +197,8 @@ or_won false b f = refl
 
 module _ (m : ℕ) where
   reach_go : (v : Entry) (o : Option Entry) → holds (λ w. leb m w.index) (greater (λ w. w.index) v o) ≡ leb m v.index || holds (λ w. leb m w.index) o
-  reach_go v none = or_lost (leb m v.index) false (λ t. never t refl)
-  reach_go v (some u) =
+  reach_go v None = or_lost (leb m v.index) false (λ t. never t refl)
+  reach_go v (Some u) =
       elim (dec_lt u.index v.index) [
         | yes l ↦ rw (lt-ltb u.index v.index l)
             (or_lost (leb m v.index) (leb m u.index) (λ t. le-leb m v.index (omega (arith, leb-true m u.index t))))

@@ -3,7 +3,7 @@
 use mathlib.Core.Path.{◌≡◌, refl, sym, ap, ◌∙◌}
 use mathlib.Core.Bool.{Bool, true, false, cond, ◌&&◌, ◌||◌}
 use mathlib.Core.List.{List, [], ◌∷◌}
-use mathlib.Core.Option.{Option, none, some}
+use Rattle.std.specs.Prelude.{Option, None, Some}
 use mathlib.Core.Logic.{⊎_elim}
 use Prim.Native.Nat.{ℕ, zero, suc, ◌+◌, ◌-◌, ◌≤◌, ◌<◌}
 use native.Mathlib.Omega.{arith}
@@ -34,16 +34,16 @@ use Rattle.descriptors.specs.Answers.{up_to, above, at_place}
 use Rattle.descriptors.proofs.Roles.{new_fresh, first_new, first_free, in_standing, in_generation}
 
 -- a number one above a place
-put_suc : (log : List ℕ) (i : ℕ) → put log (i + 1) ≡ some (put_entry log i)
+put_suc : (log : List ℕ) (i : ℕ) → put log (i + 1) ≡ Some (put_entry log i)
 put_suc log i = ap (put log) (add-one i)
 
-pub statement_suc : (log : List ℕ) (i : ℕ) → statement log (i + 1) ≡ some (stated_entry log i)
+pub statement_suc : (log : List ℕ) (i : ℕ) → statement log (i + 1) ≡ Some (stated_entry log i)
 statement_suc log i = ap (statement log) (add-one i)
 
 -- ---- the chain of standing values
 
-standing_bucket_lem : (cap range : ℕ) (x : TraceRecord) (h : History) (v : Entry) → fresh same_place tells_put x h ≡ some v → v.range ≡ range
-    → standing_bucket cap x h ≡ some (bucket_by cap range)
+standing_bucket_lem : (cap range : ℕ) (x : TraceRecord) (h : History) (v : Entry) → fresh same_place tells_put x h ≡ Some v → v.range ≡ range
+    → standing_bucket cap x h ≡ Some (bucket_by cap range)
 unfolding standing_bucket
 standing_bucket_lem cap range x h v e r = rw (new_fresh x h, e, r)
 
@@ -83,17 +83,17 @@ module _ (cap range : ℕ) (log : List ℕ) (p : Entry → Bool) (r : (v : Entry
 
 module _ (cap range : ℕ) (log : List ℕ) (p : Entry → Bool) where
   greatest_go : (best best' : ℕ) (v : Entry) (vs : List Entry) {t : Bool} → t ≡ p v
-      → put log best' ≡ cond t (greater_of (λ v. v.index) (put log best) (some v)) (put log best)
+      → put log best' ≡ cond t (greater_of (λ v. v.index) (put log best) (Some v)) (put log best)
       → greater_of (λ v. v.index) (put log best) (greatest_of (λ v. v.index) p (v ∷ vs))
       ≡ greater_of (λ v. v.index) (put log best') (greatest_of (λ v. v.index) p vs)
   greatest_go best best' v vs e q =
       (greatest_turns (λ v. v.index) p).turn (put log best) v vs
       ∙ ap (λ (o : Option Entry). greater_of (λ v. v.index) o (greatest_of (λ v. v.index) p vs))
-      (sym (q ∙ ap (λ (b : Bool). cond b (greater_of (λ v. v.index) (put log best) (some v)) (put log best)) e))
+      (sym (q ∙ ap (λ (b : Bool). cond b (greater_of (λ v. v.index) (put log best) (Some v)) (put log best)) e))
 
   pub greatest_next : (best best' i : ℕ) {b : ℕ} {x : Option Entry} {t : Bool} → 0 < i → In (standing_bucket cap) b log (i - 1)
       → x ≡ Greatest cap range log p best i → t ≡ p (put_entry log (i - 1))
-      → put log best' ≡ cond t (greater_of (λ v. v.index) (put log best) (some (put_entry log (i - 1)))) (put log best)
+      → put log best' ≡ cond t (greater_of (λ v. v.index) (put log best) (Some (put_entry log (i - 1)))) (put log best)
       → x ≡ Greatest cap range log p best' (i - 1)
   greatest_next best best' i l m e q w =
       e ∙ ap (λ (vs : List Entry). greater_of (λ v. v.index) (put log best) (greatest_of (λ v. v.index) p vs)) (standing_hit cap range log l m)
@@ -105,17 +105,17 @@ module _ (cap range : ℕ) (log : List ℕ) (p : Entry → Bool) where
       ∙ greatest_end (λ v. v.index) p (put log best))
 
   lowest_go : (best best' : ℕ) (v : Entry) (vs : List Entry) {t : Bool} → t ≡ p v
-      → put log best' ≡ cond t (lower_of (λ v. v.index) (put log best) (some v)) (put log best)
+      → put log best' ≡ cond t (lower_of (λ v. v.index) (put log best) (Some v)) (put log best)
       → lower_of (λ v. v.index) (put log best) (lowest_of (λ v. v.index) p (v ∷ vs))
       ≡ lower_of (λ v. v.index) (put log best') (lowest_of (λ v. v.index) p vs)
   lowest_go best best' v vs e q =
       (lowest_turns (λ v. v.index) p).turn (put log best) v vs
       ∙ ap (λ (o : Option Entry). lower_of (λ v. v.index) o (lowest_of (λ v. v.index) p vs))
-      (sym (q ∙ ap (λ (b : Bool). cond b (lower_of (λ v. v.index) (put log best) (some v)) (put log best)) e))
+      (sym (q ∙ ap (λ (b : Bool). cond b (lower_of (λ v. v.index) (put log best) (Some v)) (put log best)) e))
 
   pub lowest_next : (best best' i : ℕ) {b : ℕ} {x : Option Entry} {t : Bool} → 0 < i → In (standing_bucket cap) b log (i - 1)
       → x ≡ Lowest cap range log p best i → t ≡ p (put_entry log (i - 1))
-      → put log best' ≡ cond t (lower_of (λ v. v.index) (put log best) (some (put_entry log (i - 1)))) (put log best)
+      → put log best' ≡ cond t (lower_of (λ v. v.index) (put log best) (Some (put_entry log (i - 1)))) (put log best)
       → x ≡ Lowest cap range log p best' (i - 1)
   lowest_next best best' i l m e q w =
       e ∙ ap (λ (vs : List Entry). lower_of (λ v. v.index) (put log best) (lowest_of (λ v. v.index) p vs)) (standing_hit cap range log l m)
@@ -135,50 +135,50 @@ at_suc : (log : List ℕ) (k : ℕ) → (record_at log (suc k - 1)).b ≡ (recor
 at_suc log k = let e : suc k - 1 ≡ k = omega arith in ap (λ (n : ℕ). (record_at log n).b) e
 
 pub weigh_first : (log : List ℕ) (best i : ℕ) (passes : Bool) (f : Option Entry → Option Entry → Option Entry)
-    → ((v : Entry) → f none (some v) ≡ some v) → passes ≡ true → best ≡ 0
-    → put log (i + 1) ≡ cond passes (f (put log best) (some (put_entry log i))) (put log best)
+    → ((v : Entry) → f None (Some v) ≡ Some v) → passes ≡ true → best ≡ 0
+    → put log (i + 1) ≡ cond passes (f (put log best) (Some (put_entry log i))) (put log best)
 weigh_first log best i passes f g t z = put_suc log i ∙ rw (t, z) (sym (g (put_entry log i)))
 
 module _ (log : List ℕ) (best i : ℕ) (passes : Bool) (t : passes ≡ true) (n : best ≡ 0 → ⊥) where
   pub greater_takes : (record_at log (best - 1)).b ≤ (record_at log (i + 1 - 1)).b
-      → put log (i + 1) ≡ cond passes (greater_of (λ v. v.index) (put log best) (some (put_entry log i))) (put log best)
+      → put log (i + 1) ≡ cond passes (greater_of (λ v. v.index) (put log best) (Some (put_entry log i))) (put log best)
   greater_takes l = put_suc log i ∙ rw t (go best n l)
     where
       go : (b : ℕ) → (b ≡ 0 → ⊥) → (record_at log (b - 1)).b ≤ (record_at log (i + 1 - 1)).b
-          → some (put_entry log i) ≡ greater_of (λ v. v.index) (put log b) (some (put_entry log i))
+          → Some (put_entry log i) ≡ greater_of (λ v. v.index) (put log b) (Some (put_entry log i))
       go zero m w = absurd (m refl)
       go (suc k) m w =
           let q : (record_at log k).b ≤ (record_at log i).b = omega (arith, w, at_next log i, at_suc log k) in
           sym (greater_take (λ v. v.index) {w = put_entry log k} {v = put_entry log i} q)
 
   pub greater_keeps : (record_at log (i + 1 - 1)).b < (record_at log (best - 1)).b
-      → put log best ≡ cond passes (greater_of (λ v. v.index) (put log best) (some (put_entry log i))) (put log best)
+      → put log best ≡ cond passes (greater_of (λ v. v.index) (put log best) (Some (put_entry log i))) (put log best)
   greater_keeps l = rw t (go best n l)
     where
       go : (b : ℕ) → (b ≡ 0 → ⊥) → (record_at log (i + 1 - 1)).b < (record_at log (b - 1)).b
-          → put log b ≡ greater_of (λ v. v.index) (put log b) (some (put_entry log i))
+          → put log b ≡ greater_of (λ v. v.index) (put log b) (Some (put_entry log i))
       go zero m w = absurd (m refl)
       go (suc k) m w =
           let q : (record_at log i).b < (record_at log k).b = omega (arith, w, at_next log i, at_suc log k) in
           sym (greater_keep (λ v. v.index) {w = put_entry log k} {v = put_entry log i} q)
 
   pub lower_takes : (record_at log (i + 1 - 1)).b ≤ (record_at log (best - 1)).b
-      → put log (i + 1) ≡ cond passes (lower_of (λ v. v.index) (put log best) (some (put_entry log i))) (put log best)
+      → put log (i + 1) ≡ cond passes (lower_of (λ v. v.index) (put log best) (Some (put_entry log i))) (put log best)
   lower_takes l = put_suc log i ∙ rw t (go best n l)
     where
       go : (b : ℕ) → (b ≡ 0 → ⊥) → (record_at log (i + 1 - 1)).b ≤ (record_at log (b - 1)).b
-          → some (put_entry log i) ≡ lower_of (λ v. v.index) (put log b) (some (put_entry log i))
+          → Some (put_entry log i) ≡ lower_of (λ v. v.index) (put log b) (Some (put_entry log i))
       go zero m w = absurd (m refl)
       go (suc k) m w =
           let q : (record_at log i).b ≤ (record_at log k).b = omega (arith, w, at_next log i, at_suc log k) in
           sym (lower_take (λ v. v.index) {w = put_entry log k} {v = put_entry log i} q)
 
   pub lower_keeps : (record_at log (best - 1)).b < (record_at log (i + 1 - 1)).b
-      → put log best ≡ cond passes (lower_of (λ v. v.index) (put log best) (some (put_entry log i))) (put log best)
+      → put log best ≡ cond passes (lower_of (λ v. v.index) (put log best) (Some (put_entry log i))) (put log best)
   lower_keeps l = rw t (go best n l)
     where
       go : (b : ℕ) → (b ≡ 0 → ⊥) → (record_at log (b - 1)).b < (record_at log (i + 1 - 1)).b
-          → put log b ≡ lower_of (λ v. v.index) (put log b) (some (put_entry log i))
+          → put log b ≡ lower_of (λ v. v.index) (put log b) (Some (put_entry log i))
       go zero m w = absurd (m refl)
       go (suc k) m w =
           let q : (record_at log k).b < (record_at log i).b = omega (arith, w, at_next log i, at_suc log k) in
@@ -239,7 +239,7 @@ module _ (cap range index : ℕ) (log : List ℕ) where
       ap (latest_of (at_place range index)) (standing_hit cap range log l m)
       ∙ (latest_ignores (at_place range index)).other (put_entry log (i - 1)) (standing (hist log (i - 1))) (sym e ∙ h)
 
-  pub place_end : (i : ℕ) → i ≡ 0 → latest_of (at_place range index) (standing (hist log i)) ≡ none
+  pub place_end : (i : ℕ) → i ≡ 0 → latest_of (at_place range index) (standing (hist log i)) ≡ None
   unfolding latest_of
   place_end i e = ap (latest_of (at_place range index)) (standing_end log e)
 
@@ -248,13 +248,13 @@ module _ (cap range index : ℕ) (log : List ℕ) where
 abbrev of_generation : ℕ → ℕ → Entry → Bool
 of_generation range generation v = eqb v.range range && eqb v.held.generation generation
 
-standing_more : (x : TraceRecord) (h : History) {v : Entry} → new_value x h ≡ some v → standing (x ∷ h) ≡ v ∷ standing h
+standing_more : (x : TraceRecord) (h : History) {v : Entry} → new_value x h ≡ Some v → standing (x ∷ h) ≡ v ∷ standing h
 unfolding standing
 standing_more x h {v} e =
     firsts_afresh same_place tells_put (x ∷ h) ∙ told_hit (fresh same_place tells_put) x h v (sym (new_fresh x h) ∙ e)
     ∙ ap (λ (vs : List Entry). v ∷ vs) (sym (firsts_afresh same_place tells_put h))
 
-standing_same : (x : TraceRecord) (h : History) → new_value x h ≡ none → standing (x ∷ h) ≡ standing h
+standing_same : (x : TraceRecord) (h : History) → new_value x h ≡ None → standing (x ∷ h) ≡ standing h
 unfolding standing
 standing_same x h e =
     firsts_afresh same_place tells_put (x ∷ h) ∙ told_skip (fresh same_place tells_put) x h (sym (new_fresh x h) ∙ e)
@@ -276,19 +276,19 @@ same_of range generation v vs h =
     rw (a, b)
 
 module _ (cap range generation : ℕ) where
-  generation_bucket_lem : (x : TraceRecord) (h : History) (v : Entry) → new_value x h ≡ some v → of_generation range generation v ≡ true
-      → any_of (same_generation v) (standing h) ≡ false → generation_bucket cap x h ≡ some (bucket_by_two cap range generation)
+  generation_bucket_lem : (x : TraceRecord) (h : History) (v : Entry) → new_value x h ≡ Some v → of_generation range generation v ≡ true
+      → any_of (same_generation v) (standing h) ≡ false → generation_bucket cap x h ≡ Some (bucket_by_two cap range generation)
   unfolding generation_bucket first_value
   generation_bucket_lem x h v e t n =
       let a : v.range ≡ range = eqb-true _ _ (and_left (eqb v.range range) (eqb v.held.generation generation) t) in
       let b : v.held.generation ≡ generation = eqb-true _ _ (and_right (eqb v.range range) (eqb v.held.generation generation) t) in
       rw (e, n, a, b)
 
-  generation_go : (x : TraceRecord) (h : History) → (generation_bucket cap x h ≡ some (bucket_by_two cap range generation) → ⊥)
+  generation_go : (x : TraceRecord) (h : History) → (generation_bucket cap x h ≡ Some (bucket_by_two cap range generation) → ⊥)
       → (o : Option Entry) → new_value x h ≡ o
       → earliest_of (of_generation range generation) (standing (x ∷ h)) ≡ earliest_of (of_generation range generation) (standing h)
-  generation_go x h n none e = ap (earliest_of (of_generation range generation)) (standing_same x h e)
-  generation_go x h n (some v) e =
+  generation_go x h n None e = ap (earliest_of (of_generation range generation)) (standing_same x h e)
+  generation_go x h n (Some v) e =
       ap (earliest_of (of_generation range generation)) (standing_more x h e)
       ∙ ⊎_elim
       (λ t. ⊎_elim
@@ -307,7 +307,7 @@ module _ (cap range generation : ℕ) where
 
   module _ (log : List ℕ) (i : ℕ) {b : ℕ} {t : Bool} (l : 0 < i) (m : In (generation_bucket cap) b log (i - 1))
       (e : t ≡ eqb (put_entry log (i - 1)).range range && eqb (put_entry log (i - 1)).held.generation generation) where
-    first_at : first_value (record_at log (i - 1)) (hist log (i - 1)) ≡ some (put_entry log (i - 1))
+    first_at : first_value (record_at log (i - 1)) (hist log (i - 1)) ≡ Some (put_entry log (i - 1))
     first_at = in_generation cap log (i - 1) m
 
     generation_at : first_at_generation range generation (hist log i)
@@ -334,7 +334,7 @@ module _ (cap range generation : ℕ) where
     generation_miss h = generation_at ∙ (earliest_ignores (of_generation range generation)).other (put_entry log (i - 1))
         (standing (hist log (i - 1))) (sym e ∙ h)
 
-  pub generation_end : (log : List ℕ) (i : ℕ) → i ≡ 0 → first_at_generation range generation (hist log i) ≡ none
+  pub generation_end : (log : List ℕ) (i : ℕ) → i ≡ 0 → first_at_generation range generation (hist log i) ≡ None
   unfolding first_at_generation first_at_generation_in earliest_of
   generation_end log i e = ap (earliest_of (of_generation range generation)) (standing_end log e)
 
@@ -342,13 +342,13 @@ module _ (cap range generation : ℕ) where
 
 by_marked : (node : ℕ) (n : Node) (cap : ℕ) (x : TraceRecord) (range : ℕ) → by_node node n ≡ true → is_kind 1 x || is_kind 3 x || is_kind 4 x ≡ true
     → x.a ≡ range
-    → applied_at cap x n ≡ some (bucket_by_two cap node range)
+    → applied_at cap x n ≡ Some (bucket_by_two cap node range)
 by_marked node Missing cap x range b k r = never b refl
 by_marked node (Marked m) cap x range b k r = let e : m.0 ≡ node = eqb-true _ _ b in rw (k, r, e)
 
 module _ (cap node range : ℕ) where
-  applied_bucket_lem : (x : TraceRecord) (h : History) (v : ℕ) → tells_applied node range x h ≡ some v → applied_bucket cap x h
-      ≡ some (bucket_by_two cap node range)
+  applied_bucket_lem : (x : TraceRecord) (h : History) (v : ℕ) → tells_applied node range x h ≡ Some v → applied_bucket cap x h
+      ≡ Some (bucket_by_two cap node range)
   unfolding applied_bucket
   applied_bucket_lem x h v e =
       let t = when_holds (is_by node x && (is_kind 1 x || is_kind 3 x || is_kind 4 x) && eqb x.a range) x.b e in
@@ -371,7 +371,7 @@ module _ (node range : ℕ) (log : List ℕ) (i : ℕ) where
         && eqb (record_at log (i - 1)).a range ≡ t
     is_applied = sym (rw (record_bytes log (i - 1) e) at q)
 
-    pub applied_hit : {b : ℕ} → t ≡ true → b ≡ (record_at log (i - 1)).b → applied node range (hist log i) ≡ some b
+    pub applied_hit : {b : ℕ} → t ≡ true → b ≡ (record_at log (i - 1)).b → applied node range (hist log i) ≡ Some b
     unfolding applied
     applied_hit h w = latest_found (tells_applied node range) log l (rw (is_applied, h, w))
 
@@ -379,6 +379,6 @@ module _ (node range : ℕ) (log : List ℕ) (i : ℕ) where
     unfolding applied
     applied_miss h = latest_passed (tells_applied node range) log l (rw (is_applied, h))
 
-  pub applied_end : i ≡ 0 → applied node range (hist log i) ≡ none
+  pub applied_end : i ≡ 0 → applied node range (hist log i) ≡ None
   unfolding applied
   applied_end e = latest_end (tells_applied node range) log e

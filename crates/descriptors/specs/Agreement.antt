@@ -1,6 +1,5 @@
 -- What a new value makes of the statements that were no fault: which of them become faulty by it.
-use Rattle.std.specs.Prelude.{Bool, cond, not, ◌&&◌, ◌||◌, List, eqb, ltb, leb}
-use Rattle.std.proofs.Math.Option.{Option}
+use Rattle.std.specs.Prelude.{Bool, cond, not, ◌&&◌, ◌||◌, List, eqb, ltb, leb, Option}
 use Rattle.rules.specs.History.{is_some, holds, greatest_of, lowest_of}
 use Rattle.rules.specs.Descriptors.{Entry, at_in, held_eqb}
 

@@ -1,6 +1,5 @@
 -- What the answers of this crate's functions stand for in the rules.
-use Rattle.std.specs.Prelude.{Bool, false, cond, not, ◌&&◌, ◌||◌, List, [], ◌∷◌, ℕ, eqb, ltb, leb}
-use Rattle.std.proofs.Math.Option.{Option, none, some}
+use Rattle.std.specs.Prelude.{Bool, false, cond, not, ◌&&◌, ◌||◌, List, [], ◌∷◌, ℕ, eqb, ltb, leb, Option, None, Some}
 use Rattle.rules.specs.declared.Case.{Case}
 use Rattle.rules.specs.declared.Found.{Found}
 use Rattle.rules.specs.declared.Found.TheVariants.{At, Nothing}
@@ -17,8 +16,8 @@ use Rattle.descriptors.specs.declared.role.Role.TheVariants.{Puts, States, Neith
 
 -- the applied index, where one is known
 abbrev pub applied_is : Applied → Option ℕ
-applied_is (Known i) = some i
-applied_is Unknown = none
+applied_is (Known i) = Some i
+applied_is Unknown = None
 
 -- a record's role
 abbrev pub role_is : Role → rules.Role
@@ -28,8 +27,8 @@ role_is Neither = neither
 
 -- "These look-ups give the number of the putting record, or none"
 abbrev pub found_by : Option Entry → Found
-found_by none = Nothing
-found_by (some v) = At v.number
+found_by None = Nothing
+found_by (Some v) = At v.number
 
 -- the value at a place, as a put asks for it
 abbrev pub at_place : ℕ → ℕ → Entry → Bool

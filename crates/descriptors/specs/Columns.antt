@@ -1,8 +1,7 @@
 -- What the columns of `Descriptors` hold: chains of the records that tell the applied indexes, put standing values, state
 -- values, and put the first value of a generation; and a word for each record: the counts after it, and a mark. What a new record
 -- changes in them.
-use Rattle.std.specs.Prelude.{◌≡◌, Bool, true, false, cond, not, ◌&&◌, ◌||◌, List, ◌∷◌, ℕ, zero, suc, ◌+◌, ◌*◌, ◌/◌, ◌≤◌, eqb, leb, length, get_or}
-use Rattle.std.proofs.Math.Option.{Option, none, some}
+use Rattle.std.specs.Prelude.{◌≡◌, Bool, true, false, cond, not, ◌&&◌, ◌||◌, List, ◌∷◌, ℕ, zero, suc, ◌+◌, ◌*◌, ◌/◌, ◌≤◌, eqb, leb, length, get_or, Option, None, Some}
 use Rattle.record.specs.declared.named.Node.{Node}
 use Rattle.record.specs.declared.named.Node.TheVariants.{Marked, Missing}
 use Rattle.record.specs.Records.{TraceRecord}
@@ -16,18 +15,18 @@ use Rattle.descriptors.specs.declared.note.Told.{Told}
 
 -- the value that a record puts, where none stood at its place
 unfoldable pub new_value : Tells Entry
-new_value x h = given (λ p. cond (any_of (same_place p) (standing h)) none (some p)) (tells_put x h)
+new_value x h = given (λ p. cond (any_of (same_place p) (standing h)) None (Some p)) (tells_put x h)
 
 abbrev pub same_generation : Entry → Entry → Bool
 same_generation v w = eqb w.range v.range && eqb w.held.generation v.held.generation
 
 -- the same where it is the first of its range and generation
 unfoldable pub first_value : Tells Entry
-first_value x h = given (λ p. cond (any_of (same_generation p) (standing h)) none (some p)) (new_value x h)
+first_value x h = given (λ p. cond (any_of (same_generation p) (standing h)) None (Some p)) (new_value x h)
 
 -- the records that tell an applied index, by node and range
 abbrev pub applied_at : ℕ → TraceRecord → Node → Option ℕ
-applied_at cap x Missing = none
+applied_at cap x Missing = None
 applied_at cap x (Marked n) = when (is_kind 1 x || is_kind 3 x || is_kind 4 x) (bucket_by_two cap n.0 x.a)
 
 unfoldable pub applied_bucket : ℕ → Tells ℕ
@@ -35,10 +34,10 @@ applied_bucket cap x h = applied_at cap x x.node
 
 -- the records whose values stand, by range; those that state, by range; those that put the first value of a generation
 abbrev pub by_range : ℕ → Entry → Option ℕ
-by_range cap v = some (bucket_by cap v.range)
+by_range cap v = Some (bucket_by cap v.range)
 
 abbrev pub by_generation : ℕ → Entry → Option ℕ
-by_generation cap v = some (bucket_by_two cap v.range v.held.generation)
+by_generation cap v = Some (bucket_by_two cap v.range v.held.generation)
 
 unfoldable pub standing_bucket : ℕ → Tells ℕ
 standing_bucket cap x h = given (by_range cap) (new_value x h)
@@ -86,12 +85,12 @@ stated_entry log k = record { range = (record_at log k).a; index = stated_index 
 
 -- what a record's number stands for, 0 for none
 abbrev pub put : List ℕ → ℕ → Option Entry
-put log zero = none
-put log (suc k) = some (put_entry log k)
+put log zero = None
+put log (suc k) = Some (put_entry log k)
 
 abbrev pub statement : List ℕ → ℕ → Option Entry
-statement log zero = none
-statement log (suc k) = some (stated_entry log k)
+statement log zero = None
+statement log (suc k) = Some (stated_entry log k)
 
 -- ---- what a new record changes
 

@@ -1,6 +1,5 @@
 // The standing values of a range: walks along their chain, and the look-ups.
-ghost use Rattle.std.specs.Prelude.{◌≡◌, ◌&&◌, ◌||◌, not, cond, ℕ, ◌+◌, ◌*◌, ◌-◌, ◌≤◌, ◌<◌, eqb, leb, ltb, length, get_or};
-ghost use Rattle.std.proofs.Math.Option.{some};
+ghost use Rattle.std.specs.Prelude.{◌≡◌, ◌&&◌, ◌||◌, not, cond, ℕ, ◌+◌, ◌*◌, ◌-◌, ◌≤◌, ◌<◌, eqb, leb, ltb, length, get_or, Some};
 ghost use Rattle.record.specs.Records.{decode};
 ghost use Rattle.rules.specs.History.{latest_of, holds};
 ghost use Rattle.rules.specs.Descriptors.{standing, at, before, first_at_generation};
@@ -57,7 +56,7 @@ fn is_up_to(rec: &[u8], range: u64, free: bool, index: u64, any: bool, generatio
 // The number of the greater of two values, 0 being none, where the one at place i passes: of equals the older, at place i.
 fn greater(log: &[u8], best: usize, i: usize, passes: bool) -> usize
     requires { (368 * best ≤ length log.now) × ((368 * i + 368 ≤ length log.now) × (i < 4096)) }
-    ensures { (put log.now result ≡ cond passes (greater_of (λ v. v.index) (put log.now best) (some (put_entry log.now i))) (put log.now best)) × ((n : ℕ) → best ≤ n → i < n → result ≤ n) }
+    ensures { (put log.now result ≡ cond passes (greater_of (λ v. v.index) (put log.now best) (Some (put_entry log.now i))) (put log.now best)) × ((n : ℕ) → best ≤ n → i < n → result ≤ n) }
 {
     if !passes {
         return best;
@@ -73,7 +72,7 @@ fn greater(log: &[u8], best: usize, i: usize, passes: bool) -> usize
 
 fn lower(log: &[u8], best: usize, i: usize, passes: bool) -> usize
     requires { (368 * best ≤ length log.now) × ((368 * i + 368 ≤ length log.now) × (i < 4096)) }
-    ensures { (put log.now result ≡ cond passes (lower_of (λ v. v.index) (put log.now best) (some (put_entry log.now i))) (put log.now best)) × ((n : ℕ) → best ≤ n → i < n → result ≤ n) }
+    ensures { (put log.now result ≡ cond passes (lower_of (λ v. v.index) (put log.now best) (Some (put_entry log.now i))) (put log.now best)) × ((n : ℕ) → best ≤ n → i < n → result ≤ n) }
 {
     if !passes {
         return best;

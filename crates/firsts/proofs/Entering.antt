@@ -2,7 +2,7 @@
 use mathlib.Core.Path.{◌≡◌, refl, sym, ap, ◌∙◌}
 use mathlib.Core.Bool.{true}
 use mathlib.Core.List.{List}
-use mathlib.Core.Option.{Option, none, some}
+use Rattle.std.specs.Prelude.{Option, None, Some}
 use Prim.Native.Nat.{ℕ, ◌*◌, ◌<◌}
 use native.Mathlib.Omega.{arith}
 use Rattle.record.specs.Records.{TraceRecord}
@@ -18,13 +18,13 @@ use Rattle.firsts.specs.Columns.{first_grant, first_write, first_bucket, FirstEn
 use Rattle.firsts.proofs.Grants.{grant_is, grant_in}
 use Rattle.firsts.proofs.Writes.{write_is, write_in}
 
-some_of : {A : Type 0} (o : Option A) → is_some o ≡ true → (a : A) × (o ≡ some a)
-some_of none e = never e refl
-some_of (some a) e = (a, refl)
+some_of : {A : Type 0} (o : Option A) → is_some o ≡ true → (a : A) × (o ≡ Some a)
+some_of None e = never e refl
+some_of (Some a) e = (a, refl)
 
 -- an entry into the bucket of what the record has
 entered_by : {A : Type 0} {tells : Tells A} {cap count b : ℕ} {x : TraceRecord} {work work' : List ℕ} → count < cap → b < cap
-    → ((h : History) (v : A) → tells x h ≡ some v → first_bucket cap x h ≡ some b) → Entered work work' (first_heads * cap) (first_links * cap) count b
+    → ((h : History) (v : A) → tells x h ≡ Some v → first_bucket cap x h ≡ Some b) → Entered work work' (first_heads * cap) (first_links * cap) count b
     → FirstEntered tells cap count x work work'
 entered_by {tells = tells} {x = x} l d f p = record {
   len = p.len;
@@ -38,10 +38,10 @@ module _ {cap count b : ℕ} {x : TraceRecord} {work work' : List ℕ} (l : coun
     (p : Entered work work' (first_heads * cap) (first_links * cap) count b) where
   pub grant_entered : b ≡ bucket_by cap x.b → FirstEntered first_grant cap count x work work'
   grant_entered e =
-      entered_by l d (λ h v q. grant_in x h cap q ∙ ap (λ (g : Grant). some (bucket_by cap g.index)) (sym (grant_is x h q)) ∙ ap some (sym e)) p
+      entered_by l d (λ h v q. grant_in x h cap q ∙ ap (λ (g : Grant). Some (bucket_by cap g.index)) (sym (grant_is x h q)) ∙ ap Some (sym e)) p
 
   pub write_entered : b ≡ bucket_by_two cap x.a x.b → FirstEntered first_write cap count x work work'
   write_entered e =
       entered_by l d
-      (λ h v q. write_in x h cap q ∙ ap (λ (w : Write). some (bucket_by_two cap w.range w.index)) (sym (write_is x h q)) ∙ ap some (sym e))
+      (λ h v q. write_in x h cap q ∙ ap (λ (w : Write). Some (bucket_by_two cap w.range w.index)) (sym (write_is x h q)) ∙ ap Some (sym e))
       p

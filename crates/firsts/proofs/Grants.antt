@@ -2,7 +2,7 @@
 use mathlib.Core.Path.{◌≡◌, refl, sym, ap, ◌∙◌}
 use mathlib.Core.Bool.{Bool, true, false, ◌&&◌}
 use mathlib.Core.List.{List, [], ◌∷◌}
-use mathlib.Core.Option.{Option, none, some}
+use Rattle.std.specs.Prelude.{Option, None, Some}
 use Prim.Native.Nat.{ℕ, zero, suc, ◌-◌, ◌<◌}
 use native.Mathlib.Omega.{arith}
 use lib.ListN.{length}
@@ -34,78 +34,78 @@ module _ (x : TraceRecord) (h : History) where
   grant_fresh = refl
 
   -- a first grant is the grant of a RangeIdsLeased
-  grant_told : {g : Grant} → first_grant x h ≡ some g → tells_grant x h ≡ some g
+  grant_told : {g : Grant} → first_grant x h ≡ Some g → tells_grant x h ≡ Some g
   grant_told e = fresh_told same_index tells_grant x h (sym grant_fresh ∙ e)
 
-  grant_kind : {g : Grant} → first_grant x h ≡ some g → is_kind 11 x ≡ true
+  grant_kind : {g : Grant} → first_grant x h ≡ Some g → is_kind 11 x ≡ true
   grant_kind e = when_holds (is_kind 11 x) (grant_by x) (grant_told e)
 
-  pub grant_is : {g : Grant} → first_grant x h ≡ some g → grant_by x ≡ g
+  pub grant_is : {g : Grant} → first_grant x h ≡ Some g → grant_by x ≡ g
   grant_is e = when_value (is_kind 11 x) (grant_by x) (grant_told e)
 
   -- no other kind has one
-  pub no_grant : is_kind 11 x ≡ false → first_grant x h ≡ none
+  pub no_grant : is_kind 11 x ≡ false → first_grant x h ≡ None
   unfolding first_grant
   no_grant e = rw e
 
   -- and a RangeIdsLeased has none where its index has one before
-  pub grant_known : is_kind 11 x ≡ true → any_of (same_index (grant_by x)) (first_grants h) ≡ true → first_grant x h ≡ none
+  pub grant_known : is_kind 11 x ≡ true → any_of (same_index (grant_by x)) (first_grants h) ≡ true → first_grant x h ≡ None
   unfolding first_grant
   grant_known e k = rw (e, k)
 
-  pub grant_new : is_kind 11 x ≡ true → any_of (same_index (grant_by x)) (first_grants h) ≡ false → first_grant x h ≡ some (grant_by x)
+  pub grant_new : is_kind 11 x ≡ true → any_of (same_index (grant_by x)) (first_grants h) ≡ false → first_grant x h ≡ Some (grant_by x)
   unfolding first_grant
   grant_new e k = rw (e, k)
 
   -- only a RaftApply has a write, and no RangeIdsLeased
-  pub no_write : is_kind 3 x ≡ false → first_write x h ≡ none
+  pub no_write : is_kind 3 x ≡ false → first_write x h ≡ None
   unfolding first_write
   no_write e = rw e
 
-  granted_not_written : is_kind 11 x ≡ true → first_write x h ≡ none
+  granted_not_written : is_kind 11 x ≡ true → first_write x h ≡ None
   granted_not_written e =
       let k : x.kind ≡ 11 = eqb-true x.kind 11 e in
       no_write (ne_eqb x.kind 3 (λ z. omega arith))
 
   -- the bucket of a first grant, and the only grants of the chain
-  pub grant_in : (cap : ℕ) {g : Grant} → first_grant x h ≡ some g → first_bucket cap x h ≡ some (bucket_by cap g.index)
+  pub grant_in : (cap : ℕ) {g : Grant} → first_grant x h ≡ Some g → first_bucket cap x h ≡ Some (bucket_by cap g.index)
   unfolding first_bucket
   grant_in cap e = rw e
 
-  chained_grant : (cap : ℕ) {b : ℕ} → first_bucket cap x h ≡ some b → is_kind 11 x ≡ true → first_grant x h ≡ some (grant_by x)
+  chained_grant : (cap : ℕ) {b : ℕ} → first_bucket cap x h ≡ Some b → is_kind 11 x ≡ true → first_grant x h ≡ Some (grant_by x)
   unfolding first_bucket
   chained_grant cap {b} e k = go (first_grant x h) refl
     where
-      go : (t : Option Grant) → first_grant x h ≡ t → first_grant x h ≡ some (grant_by x)
-      go none q = none_some (rw (q, granted_not_written k) at e)
-      go (some g) q = q ∙ ap some (sym (grant_is q))
+      go : (t : Option Grant) → first_grant x h ≡ t → first_grant x h ≡ Some (grant_by x)
+      go None q = none_some (rw (q, granted_not_written k) at e)
+      go (Some g) q = q ∙ ap Some (sym (grant_is q))
 
   -- a record that is neither is in no bucket
-  pub first_none : (cap : ℕ) → first_grant x h ≡ none → first_write x h ≡ none → first_bucket cap x h ≡ none
+  pub first_none : (cap : ℕ) → first_grant x h ≡ None → first_write x h ≡ None → first_bucket cap x h ≡ None
   unfolding first_bucket
   first_none cap e d = rw (e, d)
 
   -- the index of a first grant
-  index_told : {i : ℕ} → grant_index x h ≡ some i → (g : Grant) × (first_grant x h ≡ some g) × (g.index ≡ i)
+  index_told : {i : ℕ} → grant_index x h ≡ Some i → (g : Grant) × (first_grant x h ≡ Some g) × (g.index ≡ i)
   unfolding grant_index
   index_told {i} = go (first_grant x h) refl
     where
-      go : (t : Option Grant) → first_grant x h ≡ t → given (λ g. some g.index) t ≡ some i
-          → (g : Grant) × (first_grant x h ≡ some g) × (g.index ≡ i)
-      go none q e = none_some e
-      go (some g) q e = (g, q, cc)
+      go : (t : Option Grant) → first_grant x h ≡ t → given (λ g. Some g.index) t ≡ Some i
+          → (g : Grant) × (first_grant x h ≡ Some g) × (g.index ≡ i)
+      go None q e = none_some e
+      go (Some g) q e = (g, q, cc)
 
-  index_of : {g : Grant} → first_grant x h ≡ some g → grant_index x h ≡ some g.index
+  index_of : {g : Grant} → first_grant x h ≡ Some g → grant_index x h ≡ Some g.index
   unfolding grant_index
   index_of e = rw e
 
 -- the first grants, one record on
 module _ (x : TraceRecord) (h : History) where
-  pub grants_more : {g : Grant} → first_grant x h ≡ some g → first_grants (x ∷ h) ≡ g ∷ first_grants h
+  pub grants_more : {g : Grant} → first_grant x h ≡ Some g → first_grants (x ∷ h) ≡ g ∷ first_grants h
   unfolding first_grants
   grants_more e = fresh_more same_index tells_grant x h (sym (grant_fresh x h) ∙ e)
 
-  pub grants_same : first_grant x h ≡ none → first_grants (x ∷ h) ≡ first_grants h
+  pub grants_same : first_grant x h ≡ None → first_grants (x ∷ h) ≡ first_grants h
   unfolding first_grants
   grants_same e = fresh_same same_index tells_grant x h (sym (grant_fresh x h) ∙ e)
 
@@ -114,7 +114,7 @@ abbrev pub grants_at : ℕ → TraceRecord → Bool
 grants_at index x = is_kind 11 x && eqb x.b index
 
 module _ (index : ℕ) (x : TraceRecord) (h : History) where
-  told_at : grant_index x h ≡ some index → grants_at index x ≡ true
+  told_at : grant_index x h ≡ Some index → grants_at index x ≡ true
   told_at e =
       let t = index_told x h e in
       let k : is_kind 11 x ≡ true = grant_kind x h t.1 in
@@ -122,19 +122,19 @@ module _ (index : ℕ) (x : TraceRecord) (h : History) where
       rw (k, eq-eqb x.b index q)
 
   -- outside the bucket of the index there is none
-  grant_step : (cap : ℕ) → (first_bucket cap x h ≡ some (bucket_by cap index) → ⊥) → first_grant_at index (x ∷ h) ≡ first_grant_at index h
+  grant_step : (cap : ℕ) → (first_bucket cap x h ≡ Some (bucket_by cap index) → ⊥) → first_grant_at index (x ∷ h) ≡ first_grant_at index h
   grant_step cap n =
       latest_else grant_index index x h
-      (λ e. let t = index_told x h e in n (grant_in x h cap t.1 ∙ ap (λ (i : ℕ). some (bucket_by cap i)) t.2))
+      (λ e. let t = index_told x h e in n (grant_in x h cap t.1 ∙ ap (λ (i : ℕ). Some (bucket_by cap i)) t.2))
 
   grant_other : grants_at index x ≡ false → first_grant_at index (x ∷ h) ≡ first_grant_at index h
   grant_other n = latest_else grant_index index x h (λ e. never (told_at e) n)
 
-  grant_here : (cap : ℕ) {b : ℕ} → first_bucket cap x h ≡ some b → grants_at index x ≡ true → first_grant_at index (x ∷ h) ≡ suc (length h)
+  grant_here : (cap : ℕ) {b : ℕ} → first_bucket cap x h ≡ Some b → grants_at index x ≡ true → first_grant_at index (x ∷ h) ≡ suc (length h)
   grant_here cap e t =
       latest_here grant_index index x h
       (index_of x h (chained_grant x h cap e (and_left (is_kind 11 x) (eqb x.b index) t))
-      ∙ ap some (eqb-true x.b index (and_right (is_kind 11 x) (eqb x.b index) t)))
+      ∙ ap Some (eqb-true x.b index (and_right (is_kind 11 x) (eqb x.b index) t)))
 
 -- a walk along the chain: what it passes over, a turn that finds, and one that does not
 module _ (index : ℕ) (log : List ℕ) where
@@ -158,28 +158,28 @@ module _ (index : ℕ) (log : List ℕ) where
 
 -- the grant of the record with a number, none for 0
 abbrev pub grant_numbered : List ℕ → ℕ → Option Grant
-grant_numbered log zero = none
-grant_numbered log (suc k) = some (grant_by (record_at log k))
+grant_numbered log zero = None
+grant_numbered log (suc k) = Some (grant_by (record_at log k))
 
 -- the first grant at an index is that of the record found
-module _ (g : Grant) (N : ℕ → Option Grant) (x : TraceRecord) (h : History) (here : N (suc (length h)) ≡ some (grant_by x))
+module _ (g : Grant) (N : ℕ → Option Grant) (x : TraceRecord) (h : History) (here : N (suc (length h)) ≡ Some (grant_by x))
     (past : latest_of (same_index g) (first_grants h) ≡ N (first_grant_at g.index h)) where
-  latest_quiet_step : first_grant x h ≡ none → latest_of (same_index g) (first_grants (x ∷ h)) ≡ N (first_grant_at g.index (x ∷ h))
+  latest_quiet_step : first_grant x h ≡ None → latest_of (same_index g) (first_grants (x ∷ h)) ≡ N (first_grant_at g.index (x ∷ h))
   unfolding latest_in grant_index
   latest_quiet_step e = rw (grants_same x h e, e) past
 
-  latest_told_step : (v : Grant) (t : Bool) → first_grant x h ≡ some v → eqb g.index v.index ≡ t
+  latest_told_step : (v : Grant) (t : Bool) → first_grant x h ≡ Some v → eqb g.index v.index ≡ t
       → latest_of (same_index g) (v ∷ first_grants h) ≡ N (first_grant_at g.index (x ∷ h))
   unfolding latest_of latest_in grant_index
-  latest_told_step v true e t = rw (e, t) (sym (here ∙ ap some (grant_is x h e)))
+  latest_told_step v true e t = rw (e, t) (sym (here ∙ ap Some (grant_is x h e)))
   latest_told_step v false e t = rw (e, t) past
 
   latest_step : latest_of (same_index g) (first_grants (x ∷ h)) ≡ N (first_grant_at g.index (x ∷ h))
   latest_step = go (first_grant x h) refl
     where
       go : (o : Option Grant) → first_grant x h ≡ o → latest_of (same_index g) (first_grants (x ∷ h)) ≡ N (first_grant_at g.index (x ∷ h))
-      go none e = latest_quiet_step e
-      go (some v) e = ap (latest_of (same_index g)) (grants_more x h e) ∙ latest_told_step v (eqb g.index v.index) e refl
+      go None e = latest_quiet_step e
+      go (Some v) e = ap (latest_of (same_index g)) (grants_more x h e) ∙ latest_told_step v (eqb g.index v.index) e refl
 
 latest_first : (g : Grant) (log : List ℕ) → latest_of (same_index g) (first_grants []) ≡ grant_numbered log (first_grant_at g.index [])
 unfolding latest_of first_grants firsts latest_in

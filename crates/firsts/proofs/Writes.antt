@@ -2,7 +2,7 @@
 use mathlib.Core.Path.{◌≡◌, refl, sym, ap, ◌∙◌}
 use mathlib.Core.Bool.{Bool, true, false, ◌&&◌}
 use mathlib.Core.List.{List, [], ◌∷◌}
-use mathlib.Core.Option.{Option, none, some}
+use Rattle.std.specs.Prelude.{Option, None, Some}
 use Prim.Native.Nat.{ℕ, suc, ◌-◌, ◌<◌}
 use native.Mathlib.Omega.{arith}
 use lib.Dec.{eqb}
@@ -29,54 +29,54 @@ module _ (x : TraceRecord) (h : History) where
   write_fresh = refl
 
   -- a write that counts is the write of a RaftApply
-  pub write_told : {w : Write} → first_write x h ≡ some w → tells_write x h ≡ some w
+  pub write_told : {w : Write} → first_write x h ≡ Some w → tells_write x h ≡ Some w
   write_told e = fresh_told same_write tells_write x h (sym write_fresh ∙ e)
 
-  pub write_is : {w : Write} → first_write x h ≡ some w → write_of x h ≡ w
+  pub write_is : {w : Write} → first_write x h ≡ Some w → write_of x h ≡ w
   write_is e = when_value (is_write x) (write_of x h) (write_told e)
 
-  write_holds : {w : Write} → first_write x h ≡ some w → is_write x ≡ true
+  write_holds : {w : Write} → first_write x h ≡ Some w → is_write x ≡ true
   write_holds e = when_holds (is_write x) (write_of x h) (write_told e)
 
-  write_kind : {w : Write} → first_write x h ≡ some w → is_kind 3 x ≡ true
+  write_kind : {w : Write} → first_write x h ≡ Some w → is_kind 3 x ≡ true
   write_kind e = and_left (is_kind 3 x) _ (and_left (has_effect Applied x) _ (write_holds e))
 
   -- none, known, new
-  pub write_none : is_write x ≡ false → first_write x h ≡ none
+  pub write_none : is_write x ≡ false → first_write x h ≡ None
   unfolding first_write
   write_none e = rw e
 
-  pub write_known : is_write x ≡ true → any_of (same_write (write_of x h)) (writes h) ≡ true → first_write x h ≡ none
+  pub write_known : is_write x ≡ true → any_of (same_write (write_of x h)) (writes h) ≡ true → first_write x h ≡ None
   unfolding first_write
   write_known e k = rw (e, k)
 
-  pub write_new : is_write x ≡ true → any_of (same_write (write_of x h)) (writes h) ≡ false → first_write x h ≡ some (write_of x h)
+  pub write_new : is_write x ≡ true → any_of (same_write (write_of x h)) (writes h) ≡ false → first_write x h ≡ Some (write_of x h)
   unfolding first_write
   write_new e k = rw (e, k)
 
   -- a RaftApply is no grant
-  pub written_not_granted : is_kind 3 x ≡ true → first_grant x h ≡ none
+  pub written_not_granted : is_kind 3 x ≡ true → first_grant x h ≡ None
   written_not_granted e = let k : x.kind ≡ 3 = eqb-true x.kind 3 e in no_grant x h (ne_eqb x.kind 11 (λ z. omega arith))
 
   -- the bucket of a write that counts, and the only writes of the chain
-  pub write_in : (cap : ℕ) {w : Write} → first_write x h ≡ some w → first_bucket cap x h ≡ some (bucket_by_two cap w.range w.index)
+  pub write_in : (cap : ℕ) {w : Write} → first_write x h ≡ Some w → first_bucket cap x h ≡ Some (bucket_by_two cap w.range w.index)
   unfolding first_bucket
   write_in cap e = rw (written_not_granted (write_kind e), e)
 
-  chained_write : (cap : ℕ) {b : ℕ} → first_bucket cap x h ≡ some b → is_kind 3 x ≡ true → first_write x h ≡ some (write_of x h)
+  chained_write : (cap : ℕ) {b : ℕ} → first_bucket cap x h ≡ Some b → is_kind 3 x ≡ true → first_write x h ≡ Some (write_of x h)
   unfolding first_bucket
   chained_write cap {b} e k = go (first_write x h) refl
     where
-      go : (t : Option Write) → first_write x h ≡ t → first_write x h ≡ some (write_of x h)
-      go none q = none_some (rw (written_not_granted k, q) at e)
-      go (some w) q = q ∙ ap some (sym (write_is q))
+      go : (t : Option Write) → first_write x h ≡ t → first_write x h ≡ Some (write_of x h)
+      go None q = none_some (rw (written_not_granted k, q) at e)
+      go (Some w) q = q ∙ ap Some (sym (write_is q))
 
   -- the writes, one record on
-  pub writes_more : {w : Write} → first_write x h ≡ some w → writes (x ∷ h) ≡ w ∷ writes h
+  pub writes_more : {w : Write} → first_write x h ≡ Some w → writes (x ∷ h) ≡ w ∷ writes h
   unfolding writes
   writes_more e = fresh_more same_write tells_write x h (sym write_fresh ∙ e)
 
-  pub writes_same : first_write x h ≡ none → writes (x ∷ h) ≡ writes h
+  pub writes_same : first_write x h ≡ None → writes (x ∷ h) ≡ writes h
   unfolding writes
   writes_same e = fresh_same same_write tells_write x h (sym write_fresh ∙ e)
 
@@ -86,16 +86,16 @@ placed_at range index x = is_kind 3 x && (eqb range x.a && eqb index x.b)
 
 module _ (range index : ℕ) (x : TraceRecord) (h : History) where
   -- one that is, and is in the chain, has the write that counted
-  placed_here : (cap : ℕ) {b : ℕ} → first_bucket cap x h ≡ some b → placed_at range index x ≡ true → any_of (placed range index) (writes (x ∷ h)) ≡ true
+  placed_here : (cap : ℕ) {b : ℕ} → first_bucket cap x h ≡ Some b → placed_at range index x ≡ true → any_of (placed range index) (writes (x ∷ h)) ≡ true
   placed_here cap e t =
       ap (any_of (placed range index)) (writes_more x h (chained_write x h cap e (and_left (is_kind 3 x) _ t)))
       ∙ any_of_hit (placed range index) (write_of x h) (writes h) (and_right (is_kind 3 x) _ t)
 
   -- one that is not changes nothing
-  placed_else : (o : Option Write) → first_write x h ≡ o → ((w : Write) → first_write x h ≡ some w → placed range index w ≡ false)
+  placed_else : (o : Option Write) → first_write x h ≡ o → ((w : Write) → first_write x h ≡ Some w → placed range index w ≡ false)
       → any_of (placed range index) (writes (x ∷ h)) ≡ any_of (placed range index) (writes h)
-  placed_else none e n = ap (any_of (placed range index)) (writes_same x h e)
-  placed_else (some w) e n = ap (any_of (placed range index)) (writes_more x h e) ∙ any_of_skip (placed range index) w (writes h) (n w e)
+  placed_else None e n = ap (any_of (placed range index)) (writes_same x h e)
+  placed_else (Some w) e n = ap (any_of (placed range index)) (writes_more x h e) ∙ any_of_skip (placed range index) w (writes h) (n w e)
 
   placed_other : placed_at range index x ≡ false → any_of (placed range index) (writes (x ∷ h)) ≡ any_of (placed range index) (writes h)
   placed_other t = placed_else (first_write x h) refl (λ w e. rw (← write_is x h e) (right_false (write_kind x h e) t))
@@ -104,11 +104,11 @@ module _ (range index : ℕ) (x : TraceRecord) (h : History) where
       right_false {a} {b} p r = rw p at r
 
   -- nor does one outside the bucket
-  placed_outside : (cap : ℕ) → (first_bucket cap x h ≡ some (bucket_by_two cap range index) → ⊥)
+  placed_outside : (cap : ℕ) → (first_bucket cap x h ≡ Some (bucket_by_two cap range index) → ⊥)
       → any_of (placed range index) (writes (x ∷ h)) ≡ any_of (placed range index) (writes h)
   placed_outside cap n = placed_else (first_write x h) refl (λ w e. go w e (placed range index w) refl)
     where
-      go : (w : Write) → first_write x h ≡ some w → (t : Bool) → placed range index w ≡ t → t ≡ false
+      go : (w : Write) → first_write x h ≡ Some w → (t : Bool) → placed range index w ≡ t → t ≡ false
       go w e true t =
           let p : range ≡ w.range = eqb-true range w.range (and_left (eqb range w.range) (eqb index w.index) t) in
           let q : index ≡ w.index = eqb-true index w.index (and_right (eqb range w.range) (eqb index w.index) t) in

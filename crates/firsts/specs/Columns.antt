@@ -1,7 +1,6 @@
 -- The chain of the firsts, which `IdsUnique` and `GenerationsRise` share: the records with a first grant, by its index, and
 -- those with a write that counts, by its range and index. What its two columns hold, and what entering a record promises.
-use Rattle.std.specs.Prelude.{◌≡◌, Bool, true, cond, ◌&&◌, List, ◌∷◌, ℕ, ◌*◌, ◌≤◌, ◌<◌, length, get_or, eqb}
-use Rattle.std.proofs.Math.Option.{none, some}
+use Rattle.std.specs.Prelude.{◌≡◌, Bool, true, cond, ◌&&◌, List, ◌∷◌, ℕ, ◌*◌, ◌≤◌, ◌<◌, length, get_or, eqb, None, Some}
 use Rattle.record.specs.Records.{TraceRecord}
 use Rattle.rules.specs.History.{History, Tells, or_else, given, is_some, any_of}
 use Rattle.rules.specs.Descriptors.{span_of, before}
@@ -13,17 +12,17 @@ use Rattle.history.specs.Places.{first_heads, first_links, key_heads}
 
 -- the grant of a record, where it is "the first at its index"
 unfoldable pub first_grant : Tells Grant
-first_grant x h = given (λ g. cond (any_of (same_index g) (first_grants h)) none (some g)) (tells_grant x h)
+first_grant x h = given (λ g. cond (any_of (same_index g) (first_grants h)) None (Some g)) (tells_grant x h)
 
 -- the write of a record, where it is "The first Applied write with a key at" its range and index
 unfoldable pub first_write : Tells Write
-first_write x h = given (λ w. cond (any_of (same_write w) (writes h)) none (some w)) (tells_write x h)
+first_write x h = given (λ w. cond (any_of (same_write w) (writes h)) None (Some w)) (tells_write x h)
 
 -- the bucket of a first grant or of a write that counts: no record has both
 unfoldable pub first_bucket : ℕ → Tells ℕ
 first_bucket cap x h =
-    or_else (given (λ g. some (bucket_by cap g.index)) (first_grant x h))
-    (given (λ w. some (bucket_by_two cap w.range w.index)) (first_write x h))
+    or_else (given (λ g. Some (bucket_by cap g.index)) (first_grant x h))
+    (given (λ w. Some (bucket_by_two cap w.range w.index)) (first_write x h))
 
 -- the columns of the firsts are what the history says
 abbrev pub FirstsIndexed : ℕ → History → List ℕ → Type 0
@@ -31,7 +30,7 @@ FirstsIndexed cap h work = Chained (first_bucket cap) (first_heads * cap) (first
 
 -- the index of a first grant; so the number of the record with the first grant at an index, 0 where there is none
 unfoldable pub grant_index : Tells ℕ
-grant_index x h = given (λ g. some g.index) (first_grant x h)
+grant_index x h = given (λ g. Some g.index) (first_grant x h)
 
 abbrev pub first_grant_at : ℕ → History → ℕ
 first_grant_at index h = latest_in grant_index h index

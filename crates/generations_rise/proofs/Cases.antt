@@ -2,7 +2,7 @@
 use mathlib.Core.Path.{◌≡◌, refl, sym, ap, ◌∙◌}
 use mathlib.Core.Bool.{Bool, true, false, ◌&&◌}
 use mathlib.Core.List.{List, [], ◌∷◌}
-use mathlib.Core.Option.{Option, none, some}
+use Rattle.std.specs.Prelude.{Option, None, Some}
 use Prim.Native.Nat.{ℕ, suc, ◌-◌}
 use native.Mathlib.Omega.{arith}
 use Rattle.record.specs.Keys.{key_eqb}
@@ -27,46 +27,46 @@ use Rattle.generations_rise.proofs.KeyWrites.{LastIs, last_is}
 
 -- what a record's write is, by what it counts as
 module _ (x : TraceRecord) (h : History) where
-  pub not_is : Not ≡ written_as x h → first_write x h ≡ none
+  pub not_is : Not ≡ written_as x h → first_write x h ≡ None
   unfolding written_as
   not_is e = go (first_write x h) e
     where
       pick : (b : Option ℕ) → Not ≡ rated_as b → ⊥
-      pick none q = let z : ◌≡◌ {A = ℕ} 0 1 = cc in omega arith
-      pick (some g) q = let z : ◌≡◌ {A = ℕ} 0 1 = cc in omega arith
+      pick None q = let z : ◌≡◌ {A = ℕ} 0 1 = cc in omega arith
+      pick (Some g) q = let z : ◌≡◌ {A = ℕ} 0 1 = cc in omega arith
 
-      go : (o : Option Write) → Not ≡ written_of o → o ≡ none
-      go none q = refl
-      go (some w) q = absurd (pick w.generation q)
+      go : (o : Option Write) → Not ≡ written_of o → o ≡ None
+      go None q = refl
+      go (Some w) q = absurd (pick w.generation q)
 
-  pub unrated_is : Unrated ≡ written_as x h → (w : Write) × (first_write x h ≡ some w) × (w.generation ≡ none)
+  pub unrated_is : Unrated ≡ written_as x h → (w : Write) × (first_write x h ≡ Some w) × (w.generation ≡ None)
   unfolding written_as
   unrated_is e = go (first_write x h) refl e
     where
-      pick : (w : Write) (b : Option ℕ) → first_write x h ≡ some w → w.generation ≡ b → Unrated ≡ rated_as b
-          → (v : Write) × (first_write x h ≡ some v) × (v.generation ≡ none)
-      pick w none f d q = (w, f, d)
-      pick w (some g) f d q = let z : ◌≡◌ {A = ℕ} 0 1 = cc in absurd (omega arith)
+      pick : (w : Write) (b : Option ℕ) → first_write x h ≡ Some w → w.generation ≡ b → Unrated ≡ rated_as b
+          → (v : Write) × (first_write x h ≡ Some v) × (v.generation ≡ None)
+      pick w None f d q = (w, f, d)
+      pick w (Some g) f d q = let z : ◌≡◌ {A = ℕ} 0 1 = cc in absurd (omega arith)
 
-      go : (o : Option Write) → first_write x h ≡ o → Unrated ≡ written_of o → (v : Write) × (first_write x h ≡ some v) × (v.generation ≡ none)
-      go none f q = let z : ◌≡◌ {A = ℕ} 0 1 = cc in absurd (omega arith)
-      go (some w) f q = pick w w.generation f refl q
+      go : (o : Option Write) → first_write x h ≡ o → Unrated ≡ written_of o → (v : Write) × (first_write x h ≡ Some v) × (v.generation ≡ None)
+      go None f q = let z : ◌≡◌ {A = ℕ} 0 1 = cc in absurd (omega arith)
+      go (Some w) f q = pick w w.generation f refl q
 
-  pub rated_is : {g : ℕ} → Rated g ≡ written_as x h → (w : Write) × (first_write x h ≡ some w) × (w.generation ≡ some g)
+  pub rated_is : {g : ℕ} → Rated g ≡ written_as x h → (w : Write) × (first_write x h ≡ Some w) × (w.generation ≡ Some g)
   unfolding written_as
   rated_is {g} e = go (first_write x h) refl e
     where
-      pick : (w : Write) (b : Option ℕ) → first_write x h ≡ some w → w.generation ≡ b → Rated g ≡ rated_as b
-          → (v : Write) × (first_write x h ≡ some v) × (v.generation ≡ some g)
-      pick w none f d q = let z : ◌≡◌ {A = ℕ} 0 1 = cc in absurd (omega arith)
-      pick w (some u) f d q = let z : u ≡ g = cc in (w, f, d ∙ ap some z)
+      pick : (w : Write) (b : Option ℕ) → first_write x h ≡ Some w → w.generation ≡ b → Rated g ≡ rated_as b
+          → (v : Write) × (first_write x h ≡ Some v) × (v.generation ≡ Some g)
+      pick w None f d q = let z : ◌≡◌ {A = ℕ} 0 1 = cc in absurd (omega arith)
+      pick w (Some u) f d q = let z : u ≡ g = cc in (w, f, d ∙ ap Some z)
 
-      go : (o : Option Write) → first_write x h ≡ o → Rated g ≡ written_of o → (v : Write) × (first_write x h ≡ some v) × (v.generation ≡ some g)
-      go none f q = let z : ◌≡◌ {A = ℕ} 0 1 = cc in absurd (omega arith)
-      go (some w) f q = pick w w.generation f refl q
+      go : (o : Option Write) → first_write x h ≡ o → Rated g ≡ written_of o → (v : Write) × (first_write x h ≡ Some v) × (v.generation ≡ Some g)
+      go None f q = let z : ◌≡◌ {A = ℕ} 0 1 = cc in absurd (omega arith)
+      go (Some w) f q = pick w w.generation f refl q
 
   -- the case of a write that counts
-  first_case : {w : Write} → first_write x h ≡ some w → generations_at x h ≡ write_fault w w.generation (writes h)
+  first_case : {w : Write} → first_write x h ≡ Some w → generations_at x h ≡ write_fault w w.generation (writes h)
   unfolding generations_at first_write
   first_case {w} e = go (any_of (same_write w) (writes h)) refl
     where
@@ -75,17 +75,17 @@ module _ (x : TraceRecord) (h : History) where
       go false k = rw (write_told x h e, k)
 
   -- and of any other record
-  none_case : first_write x h ≡ none → Clear ≡ generations_at x h
+  none_case : first_write x h ≡ None → Clear ≡ generations_at x h
   unfolding generations_at first_write
   none_case e = go (tells_write x h) refl
     where
-      pick : (w : Write) (t : Bool) → tells_write x h ≡ some w → any_of (same_write w) (writes h) ≡ t → Clear ≡ generations_at x h
+      pick : (w : Write) (t : Bool) → tells_write x h ≡ Some w → any_of (same_write w) (writes h) ≡ t → Clear ≡ generations_at x h
       pick w true f k = rw (f, k)
       pick w false f k = none_some {a = w} (sym e ∙ rw (f, k))
 
       go : (o : Option Write) → tells_write x h ≡ o → Clear ≡ generations_at x h
-      go none f = rw f
-      go (some w) f = pick w (any_of (same_write w) (writes h)) f refl
+      go None f = rw f
+      go (Some w) f = pick w (any_of (same_write w) (writes h)) f refl
 
   pub case_not : Not ≡ written_as x h → Clear ≡ generations_at x h
   case_not e = none_case (not_is e)
@@ -122,7 +122,7 @@ module _ (x : TraceRecord) (g : ℕ) (log : List ℕ) (count : ℕ) (pass : (rep
 
   pub rise_none : n ≡ 0 → Clear ≡ rise_fault W g (writes (hist log count))
   rise_none z =
-      let e : last ≡ none = rw z at last_of in
+      let e : last ≡ None = rw z at last_of in
       let d : holds (opposes W.range g) last ≡ false = ap (holds (opposes W.range g)) e in
       rw (decided ∙ d)
 
@@ -139,7 +139,7 @@ module _ (x : TraceRecord) (g : ℕ) (log : List ℕ) (count : ℕ) (pass : (rep
       told : Write → Case
       told o = fault 2 (x.a ∷ x.b ∷ g ∷ last_generation o.generation ∷ o.range ∷ [])
 
-      weighed : (w : Write) {by v : ℕ} → w.range ≡ by → w.generation ≡ some v
+      weighed : (w : Write) {by v : ℕ} → w.range ≡ by → w.generation ≡ Some v
           → fault_if (opposes x.a g w) (told w) ≡ fault_if (against x.a g by v) (fault 2 (x.a ∷ x.b ∷ g ∷ v ∷ by ∷ []))
       weighed w r u = rw (u, r)
 

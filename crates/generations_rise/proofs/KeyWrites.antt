@@ -2,7 +2,8 @@
 use mathlib.Core.Path.{◌≡◌, refl, sym, ap, ◌∙◌}
 use mathlib.Core.Bool.{Bool, true, false, ◌&&◌}
 use mathlib.Core.List.{List, [], ◌∷◌}
-use mathlib.Core.Option.{Option, none, some, some-injective}
+use Rattle.std.proofs.lemmas.Option.{same_Some}
+use Rattle.std.specs.Prelude.{Option, None, Some}
 use Prim.Native.Nat.{ℕ, zero, suc, ◌+◌, ◌*◌, ◌-◌, ◌≤◌, ◌<◌}
 use native.Mathlib.Omega.{arith}
 use native.Mathlib.Numerals.{add-one}
@@ -43,86 +44,86 @@ rolled_end k {i} {n} l y = y ∙ ap (rolled_all n) (drop_of_length-le k l)
 
 module _ (x : TraceRecord) (h : History) where
   -- a write that has a generation is one that counts
-  rated_first : {w : Write} → rated_write x h ≡ some w → first_write x h ≡ some w
+  rated_first : {w : Write} → rated_write x h ≡ Some w → first_write x h ≡ Some w
   unfolding rated_write
   rated_first {w} e = go (first_write x h) e
     where
-      go : (o : Option Write) → given (λ v. when (is_some v.generation) v) o ≡ some w → o ≡ some w
-      go none q = q
-      go (some v) q = ap some (when_value (is_some v.generation) v q)
+      go : (o : Option Write) → given (λ v. when (is_some v.generation) v) o ≡ Some w → o ≡ Some w
+      go None q = q
+      go (Some v) q = ap Some (when_value (is_some v.generation) v q)
 
-  pub rated_none : first_write x h ≡ none → rated_write x h ≡ none
+  pub rated_none : first_write x h ≡ None → rated_write x h ≡ None
   unfolding rated_write
   rated_none e = rw e
 
-  pub rated_without : {w : Write} → first_write x h ≡ some w → w.generation ≡ none → rated_write x h ≡ none
+  pub rated_without : {w : Write} → first_write x h ≡ Some w → w.generation ≡ None → rated_write x h ≡ None
   unfolding rated_write
   rated_without e n = rw (e, n)
 
-  pub rated_with : {w : Write} {g : ℕ} → first_write x h ≡ some w → w.generation ≡ some g → rated_write x h ≡ some w
+  pub rated_with : {w : Write} {g : ℕ} → first_write x h ≡ Some w → w.generation ≡ Some g → rated_write x h ≡ Some w
   unfolding rated_write
   rated_with e n = rw (e, n)
 
   -- its bucket, and the only writes of the chain
-  pub key_in : (cap : ℕ) {w : Write} → rated_write x h ≡ some w → key_bucket cap x h ≡ some (bucket_by_key cap w.key)
+  pub key_in : (cap : ℕ) {w : Write} → rated_write x h ≡ Some w → key_bucket cap x h ≡ Some (bucket_by_key cap w.key)
   unfolding key_bucket
   key_in cap e = rw e
 
-  pub key_none : (cap : ℕ) → rated_write x h ≡ none → key_bucket cap x h ≡ none
+  pub key_none : (cap : ℕ) → rated_write x h ≡ None → key_bucket cap x h ≡ None
   unfolding key_bucket
   key_none cap e = rw e
 
-  chained_key : (cap : ℕ) {b : ℕ} → key_bucket cap x h ≡ some b → rated_write x h ≡ some (write_of x h)
+  chained_key : (cap : ℕ) {b : ℕ} → key_bucket cap x h ≡ Some b → rated_write x h ≡ Some (write_of x h)
   unfolding key_bucket
   chained_key cap {b} e = go (rated_write x h) refl
     where
-      go : (o : Option Write) → rated_write x h ≡ o → rated_write x h ≡ some (write_of x h)
-      go none q = none_some (rw q at e)
-      go (some w) q = q ∙ ap some (sym (write_is x h (rated_first q)))
+      go : (o : Option Write) → rated_write x h ≡ o → rated_write x h ≡ Some (write_of x h)
+      go None q = none_some (rw q at e)
+      go (Some w) q = q ∙ ap Some (sym (write_is x h (rated_first q)))
 
   -- the generation in its word
-  pub generation_none : first_write x h ≡ none → generation_by x h ≡ 0
+  pub generation_none : first_write x h ≡ None → generation_by x h ≡ 0
   unfolding generation_by
   generation_none e = rw e
 
-  pub generation_without : {w : Write} → first_write x h ≡ some w → w.generation ≡ none → generation_by x h ≡ 0
+  pub generation_without : {w : Write} → first_write x h ≡ Some w → w.generation ≡ None → generation_by x h ≡ 0
   unfolding generation_by
   generation_without e n = rw (e, n)
 
-  pub generation_with : {w : Write} {g : ℕ} → first_write x h ≡ some w → w.generation ≡ some g → generation_by x h ≡ g
+  pub generation_with : {w : Write} {g : ℕ} → first_write x h ≡ Some w → w.generation ≡ Some g → generation_by x h ≡ g
   unfolding generation_by
   generation_with e n = rw (e, n)
 
 -- the last write of a key, one record on
 module _ (key : Key) (x : TraceRecord) (h : History) where
-  key_told : writes_key key x h ≡ some 0 → (w : Write) × (rated_write x h ≡ some w) × (key_eqb w.key key ≡ true)
+  key_told : writes_key key x h ≡ Some 0 → (w : Write) × (rated_write x h ≡ Some w) × (key_eqb w.key key ≡ true)
   unfolding writes_key
   key_told e = go (rated_write x h) refl e
     where
-      go : (o : Option Write) → rated_write x h ≡ o → given {B = ℕ} (λ w. when (key_eqb w.key key) 0) o ≡ some 0
-          → (w : Write) × (rated_write x h ≡ some w) × (key_eqb w.key key ≡ true)
-      go none q d = none_some d
-      go (some w) q d = (w, q, when_holds (key_eqb w.key key) 0 d)
+      go : (o : Option Write) → rated_write x h ≡ o → given {B = ℕ} (λ w. when (key_eqb w.key key) 0) o ≡ Some 0
+          → (w : Write) × (rated_write x h ≡ Some w) × (key_eqb w.key key ≡ true)
+      go None q d = none_some d
+      go (Some w) q d = (w, q, when_holds (key_eqb w.key key) 0 d)
 
-  tells_key : {w : Write} → rated_write x h ≡ some w → key_eqb w.key key ≡ true → writes_key key x h ≡ some 0
+  tells_key : {w : Write} → rated_write x h ≡ Some w → key_eqb w.key key ≡ true → writes_key key x h ≡ Some 0
   unfolding writes_key
   tells_key e t = rw (e, t)
 
   -- not by a record with no such write, by one of another key, or outside the bucket
-  key_pass : rated_write x h ≡ none → last_write_at key (x ∷ h) ≡ last_write_at key h
+  key_pass : rated_write x h ≡ None → last_write_at key (x ∷ h) ≡ last_write_at key h
   key_pass e = latest_else (writes_key key) 0 x h (λ z. none_some (sym e ∙ (key_told z).1))
 
-  key_differs : {w : Write} → rated_write x h ≡ some w → key_eqb w.key key ≡ false → last_write_at key (x ∷ h) ≡ last_write_at key h
+  key_differs : {w : Write} → rated_write x h ≡ Some w → key_eqb w.key key ≡ false → last_write_at key (x ∷ h) ≡ last_write_at key h
   key_differs {w} e t =
       latest_else (writes_key key) 0 x h
-      (λ z. let k = key_told z in never k.2 (ap (λ (v : Write). key_eqb v.key key) (some-injective k.0 w (sym k.1 ∙ e)) ∙ t))
+      (λ z. let k = key_told z in never k.2 (ap (λ (v : Write). key_eqb v.key key) (same_Some k.0 w (sym k.1 ∙ e)) ∙ t))
 
-  key_outside : (cap : ℕ) → (key_bucket cap x h ≡ some (bucket_by_key cap key) → ⊥) → last_write_at key (x ∷ h) ≡ last_write_at key h
+  key_outside : (cap : ℕ) → (key_bucket cap x h ≡ Some (bucket_by_key cap key) → ⊥) → last_write_at key (x ∷ h) ≡ last_write_at key h
   key_outside cap n =
       latest_else (writes_key key) 0 x h
-      (λ z. let k = key_told z in n (key_in x h cap k.1 ∙ ap (λ (v : Key). some (bucket_by_key cap v)) (list_eqb_same k.0.key key k.2)))
+      (λ z. let k = key_told z in n (key_in x h cap k.1 ∙ ap (λ (v : Key). Some (bucket_by_key cap v)) (list_eqb_same k.0.key key k.2)))
 
-  key_here : {w : Write} → rated_write x h ≡ some w → key_eqb w.key key ≡ true → last_write_at key (x ∷ h) ≡ suc (length h)
+  key_here : {w : Write} → rated_write x h ≡ Some w → key_eqb w.key key ≡ true → last_write_at key (x ∷ h) ≡ suc (length h)
   key_here e t = latest_here (writes_key key) 0 x h (tells_key e t)
 
 -- a walk along the key's chain
@@ -152,8 +153,8 @@ module _ (key : Key) (log : List ℕ) where
 
 -- what a key's last write is, by its record's number: none; or by the record's range, at the generation of its word
 abbrev pub LastIs : List ℕ → Option Write → ℕ → Type 0
-LastIs log o zero = o ≡ none
-LastIs log o (suc k) = (w : Write) × (o ≡ some w) × (w.range ≡ (record_at log k).a) × (w.generation ≡ some (generation_by (record_at log k) (hist log k)))
+LastIs log o zero = o ≡ None
+LastIs log o (suc k) = (w : Write) × (o ≡ Some w) × (w.range ≡ (record_at log k).a) × (w.generation ≡ Some (generation_by (record_at log k) (hist log k)))
 
 module _ (key : Key) (log : List ℕ) (n : ℕ) (past : LastIs log (latest_of (is_earlier key) (writes (hist log n))) (last_write_at key (hist log n))) where
   abbrev X : TraceRecord
@@ -168,31 +169,31 @@ module _ (key : Key) (log : List ℕ) (n : ℕ) (past : LastIs log (latest_of (i
   kept : writes (X ∷ H) ≡ writes H → last_write_at key (X ∷ H) ≡ last_write_at key H → Goal
   kept e d = rw (e, d) past
 
-  passed_over : {w : Write} → first_write X H ≡ some w → is_earlier key w ≡ false → last_write_at key (X ∷ H) ≡ last_write_at key H → Goal
+  passed_over : {w : Write} → first_write X H ≡ Some w → is_earlier key w ≡ false → last_write_at key (X ∷ H) ≡ last_write_at key H → Goal
   passed_over {w} e t d = rw (writes_more X H e, latest_of_skip (is_earlier key) w (writes H) t, d) past
 
-  rated : (w : Write) (g : ℕ) (t : Bool) → first_write X H ≡ some w → w.generation ≡ some g → key_eqb w.key key ≡ t → Goal
+  rated : (w : Write) (g : ℕ) (t : Bool) → first_write X H ≡ Some w → w.generation ≡ Some g → key_eqb w.key key ≡ t → Goal
   rated w g true e r t =
       let q : last_write_at key (X ∷ H) ≡ suc n = key_here key X H (rated_with X H e r) t ∙ ap suc (hist_length log n) in
       let u : is_earlier key w ≡ true = rw (t, r) in
       rw (writes_more X H e, latest_of_hit (is_earlier key) w (writes H) u, q)
-      (w, refl, sym (ap (λ (v : Write). v.range) (write_is X H e)), r ∙ ap some (sym (generation_with X H e r)))
+      (w, refl, sym (ap (λ (v : Write). v.range) (write_is X H e)), r ∙ ap Some (sym (generation_with X H e r)))
   rated w g false e r t = passed_over e (rw t) (key_differs key X H (rated_with X H e r) t)
 
   last_step : Goal
   last_step = go (first_write X H) refl
     where
-      pick : (w : Write) (b : Option ℕ) → first_write X H ≡ some w → w.generation ≡ b → Goal
-      pick w none e r = passed_over e (unrated (key_eqb w.key key) r) (key_pass key X H (rated_without X H e r))
+      pick : (w : Write) (b : Option ℕ) → first_write X H ≡ Some w → w.generation ≡ b → Goal
+      pick w None e r = passed_over e (unrated (key_eqb w.key key) r) (key_pass key X H (rated_without X H e r))
         where
-          unrated : (t : Bool) → w.generation ≡ none → t && holds (λ v. true) w.generation ≡ false
+          unrated : (t : Bool) → w.generation ≡ None → t && holds (λ v. true) w.generation ≡ false
           unrated true q = rw q
           unrated false q = refl
-      pick w (some g) e r = rated w g (key_eqb w.key key) e r refl
+      pick w (Some g) e r = rated w g (key_eqb w.key key) e r refl
 
       go : (o : Option Write) → first_write X H ≡ o → Goal
-      go none e = kept (writes_same X H e) (key_pass key X H (rated_none X H e))
-      go (some w) e = pick w w.generation e refl
+      go None e = kept (writes_same X H e) (key_pass key X H (rated_none X H e))
+      go (Some w) e = pick w w.generation e refl
 
 none_last : (key : Key) (log : List ℕ) → LastIs log (latest_of (is_earlier key) (writes [])) (last_write_at key [])
 unfolding latest_in writes

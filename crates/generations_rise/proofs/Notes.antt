@@ -2,7 +2,7 @@
 use mathlib.Core.Path.{◌≡◌, refl, sym, ap, ◌∙◌}
 use mathlib.Core.Bool.{Bool, true, false}
 use mathlib.Core.List.{List, ◌∷◌}
-use mathlib.Core.Option.{some}
+use Rattle.std.specs.Prelude.{Some}
 use Prim.Native.Nat.{ℕ, ◌+◌, ◌*◌, ◌<◌}
 use native.Mathlib.Omega.{arith}
 use lib.ListN.{length}
@@ -46,7 +46,7 @@ noted_none {cap} h x = record {
 module _ {cap count : ℕ} (h : History) (x : TraceRecord) {work mid : List ℕ} (l : count < cap) (n : length h ≡ count)
     (p : FirstEntered first_write cap count x work mid) where
   -- entered into the chain of the firsts
-  firsts_on : {w : Write} → first_write x h ≡ some w → FirstsIndexed cap h work → FirstsIndexed cap (x ∷ h) mid
+  firsts_on : {w : Write} → first_write x h ≡ Some w → FirstsIndexed cap h work → FirstsIndexed cap (x ∷ h) mid
   firsts_on f i = p.firsts h n (ap is_some f) i
 
   -- the columns of the keys are as they were
@@ -86,8 +86,8 @@ module _ {cap count : ℕ} (h : History) (x : TraceRecord) {work mid : List ℕ}
         record {
           keys = chained_agrees (put_apart t (λ j m y. omega arith)) (put_apart t (λ j m y. omega arith))
               (entered n l v (omega arith)
-              (key_in x h cap (rated_with x h w.1 w.2) ∙ ap (λ (o : Write). some (bucket_by_key cap o.key)) (sym (write_is x h w.1))
-              ∙ ap some (sym u))
+              (key_in x h cap (rated_with x h w.1 w.2) ∙ ap (λ (o : Write). Some (bucket_by_key cap o.key)) (sym (write_is x h w.1))
+              ∙ ap Some (sym u))
               r
               (keys_kept i.keys));
           written = column_put generation_by h x

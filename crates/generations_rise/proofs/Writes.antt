@@ -2,7 +2,7 @@
 use mathlib.Core.Path.{◌≡◌, refl, sym, ap, ◌∙◌}
 use mathlib.Core.Bool.{Bool, true, false}
 use mathlib.Core.List.{List, [], ◌∷◌}
-use mathlib.Core.Option.{Option, none, some}
+use Rattle.std.specs.Prelude.{Option, None, Some}
 use Prim.Native.Nat.{ℕ, zero, suc, ◌-◌, ◌≤◌, ◌<◌}
 use native.Mathlib.Omega.{arith}
 use borrow.Author.Tests.{lt-ltb, le-ltb}
@@ -39,7 +39,7 @@ further : {log : List ℕ} {n : ℕ} {v : Entry} → Numbered log n v → Number
 further k = record { place = k.place; number = k.number; within = omega (arith, k.within); generation = k.generation }
 
 module _ (log : List ℕ) (n : ℕ) (past : (u : Entry) → Mem u (standing (hist log n)) → Numbered log n u) where
-  put_numbered : {v : Entry} → tells_put (record_at log n) (hist log n) ≡ some v → Numbered log (suc n) v
+  put_numbered : {v : Entry} → tells_put (record_at log n) (hist log n) ≡ Some v → Numbered log (suc n) v
   put_numbered {v} e =
       let x = record_at log n in
       let h = hist log n in
@@ -53,8 +53,8 @@ module _ (log : List ℕ) (n : ℕ) (past : (u : Entry) → Mem u (standing (his
   standing_step : (o : Option Entry) → tells_put (record_at log n) (hist log n) ≡ o
       → (v : Entry) → Mem v (standing (record_at log n ∷ hist log n)) → Numbered log (suc n) v
   unfolding standing
-  standing_step none e v m = further (past v (rw (firsts_skip same_place tells_put (record_at log n) (hist log n) e) at m))
-  standing_step (some w) e v m = go (any_of (same_place w) (firsts same_place tells_put (hist log n))) refl
+  standing_step None e v m = further (past v (rw (firsts_skip same_place tells_put (record_at log n) (hist log n) e) at m))
+  standing_step (Some w) e v m = go (any_of (same_place w) (firsts same_place tells_put (hist log n))) refl
     where
       go : (t : Bool) → any_of (same_place w) (firsts same_place tells_put (hist log n)) ≡ t → Numbered log (suc n) v
       go true k = further (past v (rw (firsts_known same_place tells_put (record_at log n) (hist log n) w e k) at m))
@@ -86,8 +86,8 @@ found_generation_lem log count range index = go (before range index (hist log co
   where
     go : (o : Option Entry) → Looked (Below range index) (Nearest (Below range index) (standing (hist log count))) (standing (hist log count)) o
         → found_generation log count (found_by o) ≡ rated_as (generation_of o)
-    go none l = none_at log count
-    go (some v) l =
+    go None l = none_at log count
+    go (Some v) l =
         let k = standing_numbered log count v l.mem in
         rated_at log count v.number k.place k.number k.within ∙ ap Rated (sym k.generation)
 

@@ -1,6 +1,5 @@
 -- What the answers of this crate's functions stand for in the rules.
-use Rattle.std.specs.Prelude.{Bool, cond, ◌&&◌, ◌||◌, not, List, ℕ, zero, suc, eqb, ltb}
-use Rattle.std.proofs.Math.Option.{Option, none, some}
+use Rattle.std.specs.Prelude.{Bool, cond, ◌&&◌, ◌||◌, not, List, ℕ, zero, suc, eqb, ltb, Option, None, Some}
 use Rattle.record.specs.Records.{TraceRecord}
 use Rattle.rules.specs.declared.Found.{Found}
 use Rattle.rules.specs.declared.Found.TheVariants.{At, Nothing}
@@ -13,12 +12,12 @@ use Rattle.generations_rise.specs.declared.write.Written.TheVariants.{Not, Unrat
 
 -- what a record's write counts as: none, one with no generation, one at a generation
 abbrev pub rated_as : Option ℕ → Written
-rated_as none = Unrated
-rated_as (some g) = Rated g
+rated_as None = Unrated
+rated_as (Some g) = Rated g
 
 abbrev pub written_of : Option Write → Written
-written_of none = Not
-written_of (some w) = rated_as w.generation
+written_of None = Not
+written_of (Some w) = rated_as w.generation
 
 unfoldable pub written_as : TraceRecord → History → Written
 written_as x h = written_of (first_write x h)

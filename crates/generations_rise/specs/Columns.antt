@@ -1,7 +1,6 @@
 -- The columns of `GenerationsRise`: the writes of a key that count and have a generation, and that generation. What they hold, and
 -- what a note promises.
-use Rattle.std.specs.Prelude.{◌≡◌, true, false, List, [], ◌∷◌, ℕ, ◌+◌, ◌-◌, ◌*◌, ◌%◌, ◌≤◌, ◌<◌, length, drop, get_or}
-use Rattle.std.proofs.Math.Option.{some}
+use Rattle.std.specs.Prelude.{◌≡◌, true, false, List, [], ◌∷◌, ℕ, ◌+◌, ◌-◌, ◌*◌, ◌%◌, ◌≤◌, ◌<◌, length, drop, get_or, Some}
 use Rattle.record.specs.Keys.{Key, key_eqb}
 use Rattle.record.specs.Records.{TraceRecord}
 use Rattle.rules.specs.History.{History, Tells, is_kind, when, given, is_some}
@@ -35,7 +34,7 @@ unfoldable pub bucket_by_key : ℕ → Key → ℕ
 bucket_by_key cap key = bucket_by_two cap (length key) (key_number key)
 
 unfoldable pub key_bucket : ℕ → Tells ℕ
-key_bucket cap x h = given (λ w. some (bucket_by_key cap w.key)) (rated_write x h)
+key_bucket cap x h = given (λ w. Some (bucket_by_key cap w.key)) (rated_write x h)
 
 -- the generation of such a write, 0 for any other record
 unfoldable pub generation_by : TraceRecord → History → ℕ

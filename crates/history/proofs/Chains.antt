@@ -1,7 +1,7 @@
 -- Laws of the chains: what a walk along the records of one bucket leaves out does not matter, and one more record is entered.
 use mathlib.Core.Path.{◌≡◌, refl, sym, ap, ◌∙◌}
 use mathlib.Core.List.{List, [], ◌∷◌}
-use mathlib.Core.Option.{Option, none, some}
+use Rattle.std.specs.Prelude.{Option, None, Some}
 use mathlib.Core.Logic.{◌⊎◌, inl, inr}
 use Prim.Native.Nat.{ℕ, zero, suc, ◌+◌, ◌-◌, ◌≤◌, ◌<◌}
 use native.Mathlib.Omega.{arith}
@@ -17,26 +17,26 @@ use Rattle.history.proofs.Cells.{cell_at, cell_new, cell_old, Same, column_agree
 
 -- the record at place k of the log is in the bucket b
 abbrev pub In : Tells ℕ → ℕ → List ℕ → ℕ → Type 0
-In f b log k = f (record_at log k) (hist log k) ≡ some b
+In f b log k = f (record_at log k) (hist log k) ≡ Some b
 
 -- the latest of a bucket, one record on: that record, or the latest before it
-pub latest_here : (f : Tells ℕ) (b : ℕ) (x : TraceRecord) (h : History) → f x h ≡ some b → latest_in f (x ∷ h) b ≡ suc (length h)
+pub latest_here : (f : Tells ℕ) (b : ℕ) (x : TraceRecord) (h : History) → f x h ≡ Some b → latest_in f (x ∷ h) b ≡ suc (length h)
 unfolding latest_in
 latest_here f b x h e = rw (e, eq-eqb b b refl)
 
-latest_pass : (f : Tells ℕ) (b : ℕ) (x : TraceRecord) (h : History) (o : Option ℕ) → f x h ≡ o → (o ≡ some b → ⊥) → latest_in f (x ∷ h) b ≡ latest_in f h b
+latest_pass : (f : Tells ℕ) (b : ℕ) (x : TraceRecord) (h : History) (o : Option ℕ) → f x h ≡ o → (o ≡ Some b → ⊥) → latest_in f (x ∷ h) b ≡ latest_in f h b
 unfolding latest_in
-latest_pass f b x h none e n = rw e
-latest_pass f b x h (some d) e n = rw (e, ne_eqb b d (λ q. n (ap some (sym q))))
+latest_pass f b x h None e n = rw e
+latest_pass f b x h (Some d) e n = rw (e, ne_eqb b d (λ q. n (ap Some (sym q))))
 
-pub latest_else : (f : Tells ℕ) (b : ℕ) (x : TraceRecord) (h : History) → (f x h ≡ some b → ⊥) → latest_in f (x ∷ h) b ≡ latest_in f h b
+pub latest_else : (f : Tells ℕ) (b : ℕ) (x : TraceRecord) (h : History) → (f x h ≡ Some b → ⊥) → latest_in f (x ∷ h) b ≡ latest_in f h b
 latest_else f b x h n = latest_pass f b x h (f x h) refl n
 
-in_or_out : (o : Option ℕ) (b : ℕ) → (o ≡ some b) ⊎ (o ≡ some b → ⊥)
-in_or_out none b = inr (λ e. let z : ◌≡◌ {A = ℕ} 0 1 = cc in omega arith)
-in_or_out (some d) b =
+in_or_out : (o : Option ℕ) (b : ℕ) → (o ≡ Some b) ⊎ (o ≡ Some b → ⊥)
+in_or_out None b = inr (λ e. let z : ◌≡◌ {A = ℕ} 0 1 = cc in omega arith)
+in_or_out (Some d) b =
     elim (ℕ_discrete d b) [
-      | yes e ↦ inl (ap some e)
+      | yes e ↦ inl (ap Some e)
       | no n ↦ inr (λ e. n (cc))
     ]
 
@@ -80,7 +80,7 @@ module _ (f : Tells ℕ) (b : ℕ) (log : List ℕ) where
   skip g s = latest_ind (λ n m. g n ≡ g m) refl (λ n e. refl) (λ n m e h. s n e ∙ h)
 
 -- the link of a record of the bucket
-pub link_of_lem : (f : Tells ℕ) {b : ℕ} (x : TraceRecord) (h : History) → f x h ≡ some b → link_of f x h ≡ latest_in f h b
+pub link_of_lem : (f : Tells ℕ) {b : ℕ} (x : TraceRecord) (h : History) → f x h ≡ Some b → link_of f x h ≡ latest_in f h b
 unfolding link_of
 link_of_lem f x h e = rw e
 
@@ -120,7 +120,7 @@ chained_agrees p q c = record { tops = column_agrees p c.tops; downs = column_ag
 
 -- THE ENTRY LAW
 pub entered : {f : Tells ℕ} {heads links cap n b : ℕ} {h : History} {x : TraceRecord} {work work' : List ℕ} → length h ≡ n → n < cap → b < cap
-    → heads + cap ≤ links → f x h ≡ some b → Entered work work' heads links n b → Chained f heads links cap h work → Chained f heads links cap (x ∷ h) work'
+    → heads + cap ≤ links → f x h ≡ Some b → Entered work work' heads links n b → Chained f heads links cap h work → Chained f heads links cap (x ∷ h) work'
 entered {f} {heads} {links} {cap} {n} {b} {h} {x} {work} {work'} len l m a e p c = record {
   tops = record {
     word = λ d k.
@@ -130,7 +130,7 @@ entered {f} {heads} {links} {cap} {n} {b} {h} {x} {work} {work'} len l m a e p c
               rw q t
           | no q ↦
               p.others (heads + d) (λ z. omega arith) (λ z. omega arith) ∙ c.tops.word d k
-              ∙ sym (latest_else f d x h (λ z. q (let y : some b ≡ some d = sym e ∙ z in cc)))
+              ∙ sym (latest_else f d x h (λ z. q (let y : Some b ≡ Some d = sym e ∙ z in cc)))
         ];
   };
   downs = record {
@@ -148,11 +148,11 @@ entered {f} {heads} {links} {cap} {n} {b} {h} {x} {work} {work'} len l m a e p c
 }
 
 -- a record in no bucket leaves the chains as they are
-pub not_entered : {f : Tells ℕ} {heads links cap : ℕ} {h : History} {x : TraceRecord} {work : List ℕ} → f x h ≡ none
+pub not_entered : {f : Tells ℕ} {heads links cap : ℕ} {h : History} {x : TraceRecord} {work : List ℕ} → f x h ≡ None
     → Chained f heads links cap h work → Chained f heads links cap (x ∷ h) work
 unfolding link_of
 not_entered {f} {h = h} {x = x} e c = record {
-  tops = record { word = λ d k. c.tops.word d k ∙ sym (latest_pass f d x h none e (λ z. let y : ◌≡◌ {A = ℕ} 0 1 = cc in omega arith)) };
+  tops = record { word = λ d k. c.tops.word d k ∙ sym (latest_pass f d x h None e (λ z. let y : ◌≡◌ {A = ℕ} 0 1 = cc in omega arith)) };
   downs = column_none (link_of f) h x (rw e) c.downs;
 }
 

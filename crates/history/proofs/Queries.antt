@@ -3,7 +3,7 @@
 use mathlib.Core.Path.{◌≡◌, refl, ap, ◌∙◌}
 use mathlib.Core.Bool.{Bool, true, false, cond, ◌||◌}
 use mathlib.Core.List.{List, [], ◌∷◌}
-use mathlib.Core.Option.{Option, none, some}
+use Rattle.std.specs.Prelude.{Option, None, Some}
 use Prim.Native.Nat.{ℕ, ◌≤◌, ◌<◌}
 use native.Mathlib.Omega.{arith}
 use lib.Dec.{ltb}
@@ -44,13 +44,13 @@ module _ {A : Type 0} (p : A → Bool) where
 
   -- the earliest: each that passes replaces the one found before
   abbrev pub earliest_step : Option A → A → Option A
-  earliest_step found v = cond (p v) (some v) found
+  earliest_step found v = cond (p v) (Some v) found
 
-  earliest_turn : (t : Bool) (found : Option A) (v : A) (r : Option A) → or_else (or_else r (when t v)) found ≡ or_else r (cond t (some v) found)
-  earliest_turn true found v none = refl
-  earliest_turn true found v (some u) = refl
-  earliest_turn false found v none = refl
-  earliest_turn false found v (some u) = refl
+  earliest_turn : (t : Bool) (found : Option A) (v : A) (r : Option A) → or_else (or_else r (when t v)) found ≡ or_else r (cond t (Some v) found)
+  earliest_turn true found v None = refl
+  earliest_turn true found v (Some u) = refl
+  earliest_turn false found v None = refl
+  earliest_turn false found v (Some u) = refl
 
   pub earliest_turns : Turns (λ found r. or_else r found) earliest_step (earliest_of p)
   unfolding earliest_of
@@ -60,59 +60,59 @@ module _ {A : Type 0} (p : A → Bool) where
 module _ {A : Type 0} (beats : A → A → Bool) (over : (w v u : A) → beats v u ≡ true → beats w v ≡ true → beats w u ≡ true)
     (under : (w v u : A) → beats v u ≡ false → beats w v ≡ false → beats w u ≡ false) where
   weigh_pair : (w v u : A) (s t : Bool) → beats v u ≡ s → beats w v ≡ t
-      → weigh beats w (cond s (some v) (some u)) ≡ weigh_of beats (cond t (some w) (some v)) (some u)
+      → weigh beats w (cond s (Some v) (Some u)) ≡ weigh_of beats (cond t (Some w) (Some v)) (Some u)
   weigh_pair w v u true true e d = rw (d, over w v u e d)
   weigh_pair w v u true false e d = rw (d, e)
   weigh_pair w v u false true e d = refl
   weigh_pair w v u false false e d = rw (e, under w v u e d)
 
-  weigh_last : (w v : A) (t : Bool) → cond t (some w) (some v) ≡ weigh_of beats (cond t (some w) (some v)) none
+  weigh_last : (w v : A) (t : Bool) → cond t (Some w) (Some v) ≡ weigh_of beats (cond t (Some w) (Some v)) None
   weigh_last w v true = refl
   weigh_last w v false = refl
 
-  weigh_assoc : (best : Option A) (v : A) (r : Option A) → weigh_of beats best (weigh beats v r) ≡ weigh_of beats (weigh_of beats best (some v)) r
-  weigh_assoc none v r = refl
-  weigh_assoc (some w) v none = weigh_last w v (beats w v)
-  weigh_assoc (some w) v (some u) = weigh_pair w v u (beats v u) (beats w v) refl refl
+  weigh_assoc : (best : Option A) (v : A) (r : Option A) → weigh_of beats best (weigh beats v r) ≡ weigh_of beats (weigh_of beats best (Some v)) r
+  weigh_assoc None v r = refl
+  weigh_assoc (Some w) v None = weigh_last w v (beats w v)
+  weigh_assoc (Some w) v (Some u) = weigh_pair w v u (beats v u) (beats w v) refl refl
 
 module _ {A : Type 0} (number : A → ℕ) where
   -- at first there is no best
-  pub greater_none : (r : Option A) → greater_of number none r ≡ r
+  pub greater_none : (r : Option A) → greater_of number None r ≡ r
   unfolding greater_of
   greater_none r = refl
 
-  pub lower_none : (r : Option A) → lower_of number none r ≡ r
+  pub lower_none : (r : Option A) → lower_of number None r ≡ r
   unfolding lower_of
   lower_none r = refl
 
   -- one more element to weigh: it replaces the best so far unless that one is better
-  pub greater_keep : {w v : A} → number v < number w → greater_of number (some w) (some v) ≡ some w
+  pub greater_keep : {w v : A} → number v < number w → greater_of number (Some w) (Some v) ≡ Some w
   unfolding greater_of
   greater_keep {w} {v} l = rw (lt-ltb (number v) (number w) l)
 
-  pub greater_take : {w v : A} → number w ≤ number v → greater_of number (some w) (some v) ≡ some v
+  pub greater_take : {w v : A} → number w ≤ number v → greater_of number (Some w) (Some v) ≡ Some v
   unfolding greater_of
   greater_take {w} {v} l = rw (le-ltb (number v) (number w) l)
 
-  pub lower_keep : {w v : A} → number w < number v → lower_of number (some w) (some v) ≡ some w
+  pub lower_keep : {w v : A} → number w < number v → lower_of number (Some w) (Some v) ≡ Some w
   unfolding lower_of
   lower_keep {w} {v} l = rw (lt-ltb (number w) (number v) l)
 
-  pub lower_take : {w v : A} → number v ≤ number w → lower_of number (some w) (some v) ≡ some v
+  pub lower_take : {w v : A} → number v ≤ number w → lower_of number (Some w) (Some v) ≡ Some v
   unfolding lower_of
   lower_take {w} {v} l = rw (le-ltb (number w) (number v) l)
 
-  greater_weighs : (v : A) (r : Option A) → greater number v r ≡ greater_of number (some v) r
+  greater_weighs : (v : A) (r : Option A) → greater number v r ≡ greater_of number (Some v) r
   unfolding greater_of
-  greater_weighs v none = refl
-  greater_weighs v (some u) = refl
+  greater_weighs v None = refl
+  greater_weighs v (Some u) = refl
 
-  lower_weighs : (v : A) (r : Option A) → lower number v r ≡ lower_of number (some v) r
+  lower_weighs : (v : A) (r : Option A) → lower number v r ≡ lower_of number (Some v) r
   unfolding lower_of
-  lower_weighs v none = refl
-  lower_weighs v (some u) = refl
+  lower_weighs v None = refl
+  lower_weighs v (Some u) = refl
 
-  greater_assoc : (best : Option A) (v : A) (r : Option A) → greater_of number best (greater number v r) ≡ greater_of number (greater_of number best (some v)) r
+  greater_assoc : (best : Option A) (v : A) (r : Option A) → greater_of number best (greater number v r) ≡ greater_of number (greater_of number best (Some v)) r
   unfolding greater_of
   greater_assoc best v r =
       ap (greater_of number best) (greater_weighs v r)
@@ -121,7 +121,7 @@ module _ {A : Type 0} (number : A → ℕ) where
       (λ w v u e d. le-ltb (number u) (number w) (omega (arith, ltb-false (number u) (number v) e, ltb-false (number v) (number w) d)))
       best v r
 
-  lower_assoc : (best : Option A) (v : A) (r : Option A) → lower_of number best (lower number v r) ≡ lower_of number (lower_of number best (some v)) r
+  lower_assoc : (best : Option A) (v : A) (r : Option A) → lower_of number best (lower number v r) ≡ lower_of number (lower_of number best (Some v)) r
   unfolding lower_of
   lower_assoc best v r =
       ap (lower_of number best) (lower_weighs v r)
@@ -132,12 +132,12 @@ module _ {A : Type 0} (number : A → ℕ) where
 
   -- one that passes is weighed against the best so far
   greatest_turn : (t : Bool) (best : Option A) (v : A) (r : Option A)
-      → greater_of number best (cond t (greater number v r) r) ≡ greater_of number (cond t (greater_of number best (some v)) best) r
+      → greater_of number best (cond t (greater number v r) r) ≡ greater_of number (cond t (greater_of number best (Some v)) best) r
   greatest_turn true best v r = greater_assoc best v r
   greatest_turn false best v r = refl
 
   lowest_turn : (t : Bool) (best : Option A) (v : A) (r : Option A)
-      → lower_of number best (cond t (lower number v r) r) ≡ lower_of number (cond t (lower_of number best (some v)) best) r
+      → lower_of number best (cond t (lower number v r) r) ≡ lower_of number (cond t (lower_of number best (Some v)) best) r
   lowest_turn true best v r = lower_assoc best v r
   lowest_turn false best v r = refl
 
@@ -152,10 +152,10 @@ module _ {A : Type 0} (number : A → ℕ) where
   -- and its end
   pub greatest_end : (p : A → Bool) (best : Option A) → greater_of number best (greatest_of number p []) ≡ best
   unfolding greater_of greatest_of
-  greatest_end p none = refl
-  greatest_end p (some v) = refl
+  greatest_end p None = refl
+  greatest_end p (Some v) = refl
 
   pub lowest_end : (p : A → Bool) (best : Option A) → lower_of number best (lowest_of number p []) ≡ best
   unfolding lower_of lowest_of
-  lowest_end p none = refl
-  lowest_end p (some v) = refl
+  lowest_end p None = refl
+  lowest_end p (Some v) = refl

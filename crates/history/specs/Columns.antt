@@ -1,6 +1,5 @@
 -- The work area as columns of C words, each a written function of the history, and chains of records through two of them.
-use Rattle.std.specs.Prelude.{◌≡◌, cond, List, [], ◌∷◌, ℕ, ◌+◌, ◌<◌, length, get_or, eqb, ltb}
-use Rattle.std.proofs.Math.Option.{Option, none, some}
+use Rattle.std.specs.Prelude.{◌≡◌, cond, List, [], ◌∷◌, ℕ, ◌+◌, ◌<◌, length, get_or, eqb, ltb, Option, None, Some}
 use Rattle.record.specs.Records.{TraceRecord}
 use Rattle.rules.specs.History.{History, Tells, number_after, holds}
 
@@ -20,8 +19,8 @@ latest_in f (x ∷ h) b = cond (holds (eqb b) (f x h)) (number_after h) (latest_
 
 -- for a record in a bucket the number of the latest one before it there, else 0
 abbrev pub link_in : Tells ℕ → History → Option ℕ → ℕ
-link_in f h none = 0
-link_in f h (some b) = latest_in f h b
+link_in f h None = 0
+link_in f h (Some b) = latest_in f h b
 
 unfoldable pub link_of : Tells ℕ → TraceRecord → History → ℕ
 link_of f x h = link_in f h (f x h)

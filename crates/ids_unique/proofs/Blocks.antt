@@ -2,7 +2,7 @@
 use mathlib.Core.Path.{◌≡◌, refl, sym, ap, ◌∙◌}
 use mathlib.Core.Bool.{Bool, true, false}
 use mathlib.Core.List.{List, [], ◌∷◌}
-use mathlib.Core.Option.{Option, none, some}
+use Rattle.std.specs.Prelude.{Option, None, Some}
 use Prim.Native.Nat.{ℕ, suc, ◌+◌, ◌*◌, ◌-◌, ◌≤◌, ◌<◌}
 use native.Mathlib.Omega.{arith}
 use lib.ListN.{get_or}
@@ -24,73 +24,73 @@ use Rattle.firsts.proofs.Grants.{grant_is, grants_more, grants_same}
 
 module _ (x : TraceRecord) (h : History) where
   -- a block is a first grant that is not empty
-  block_first : {g : Grant} → tells_block x h ≡ some g → first_grant x h ≡ some g
+  block_first : {g : Grant} → tells_block x h ≡ Some g → first_grant x h ≡ Some g
   unfolding tells_block
   block_first {g} e = go (first_grant x h) e
     where
-      go : (o : Option Grant) → given (λ v. when (nonempty v) v) o ≡ some g → o ≡ some g
-      go none q = q
-      go (some v) q = ap some (when_value (nonempty v) v q)
+      go : (o : Option Grant) → given (λ v. when (nonempty v) v) o ≡ Some g → o ≡ Some g
+      go None q = q
+      go (Some v) q = ap Some (when_value (nonempty v) v q)
 
-  pub block_is : {g : Grant} → tells_block x h ≡ some g → grant_by x ≡ g
+  pub block_is : {g : Grant} → tells_block x h ≡ Some g → grant_by x ≡ g
   block_is e = grant_is x h (block_first e)
 
-  block_full : {g : Grant} → tells_block x h ≡ some g → nonempty g ≡ true
+  block_full : {g : Grant} → tells_block x h ≡ Some g → nonempty g ≡ true
   unfolding tells_block
   block_full {g} e = go (first_grant x h) e
     where
-      go : (o : Option Grant) → given (λ v. when (nonempty v) v) o ≡ some g → nonempty g ≡ true
-      go none q = none_some q
-      go (some v) q = rw (← when_value (nonempty v) v q) (when_holds (nonempty v) v q)
+      go : (o : Option Grant) → given (λ v. when (nonempty v) v) o ≡ Some g → nonempty g ≡ true
+      go None q = none_some q
+      go (Some v) q = rw (← when_value (nonempty v) v q) (when_holds (nonempty v) v q)
 
-  pub block_none : first_grant x h ≡ none → tells_block x h ≡ none
+  pub block_none : first_grant x h ≡ None → tells_block x h ≡ None
   unfolding tells_block
   block_none e = rw e
 
-  pub block_empty : {g : Grant} → first_grant x h ≡ some g → nonempty g ≡ false → tells_block x h ≡ none
+  pub block_empty : {g : Grant} → first_grant x h ≡ Some g → nonempty g ≡ false → tells_block x h ≡ None
   unfolding tells_block
   block_empty e n = rw (e, n)
 
-  pub block_new : {g : Grant} → first_grant x h ≡ some g → nonempty g ≡ true → tells_block x h ≡ some g
+  pub block_new : {g : Grant} → first_grant x h ≡ Some g → nonempty g ≡ true → tells_block x h ≡ Some g
   unfolding tells_block
   block_new e n = rw (e, n)
 
   -- the records with a block are those of the one bucket
-  pub block_in : {g : Grant} → tells_block x h ≡ some g → block_bucket x h ≡ some 0
+  pub block_in : {g : Grant} → tells_block x h ≡ Some g → block_bucket x h ≡ Some 0
   unfolding block_bucket
   block_in e = rw e
 
-  pub in_block : {b : ℕ} → block_bucket x h ≡ some b → tells_block x h ≡ some (grant_by x)
+  pub in_block : {b : ℕ} → block_bucket x h ≡ Some b → tells_block x h ≡ Some (grant_by x)
   unfolding block_bucket
   in_block {b} e = go (tells_block x h) refl
     where
-      go : (o : Option Grant) → tells_block x h ≡ o → tells_block x h ≡ some (grant_by x)
-      go none q = none_some (rw q at e)
-      go (some g) q = q ∙ ap some (sym (block_is q))
+      go : (o : Option Grant) → tells_block x h ≡ o → tells_block x h ≡ Some (grant_by x)
+      go None q = none_some (rw q at e)
+      go (Some g) q = q ∙ ap Some (sym (block_is q))
 
-  pub not_block : (block_bucket x h ≡ some 0 → ⊥) → tells_block x h ≡ none
+  pub not_block : (block_bucket x h ≡ Some 0 → ⊥) → tells_block x h ≡ None
   not_block n = go (tells_block x h) refl
     where
-      go : (o : Option Grant) → tells_block x h ≡ o → tells_block x h ≡ none
-      go none q = q
-      go (some g) q = absurd (n (block_in q))
+      go : (o : Option Grant) → tells_block x h ≡ o → tells_block x h ≡ None
+      go None q = q
+      go (Some g) q = absurd (n (block_in q))
 
   -- the blocks, one record on
-  pub blocks_more : {g : Grant} → tells_block x h ≡ some g → blocks_of (x ∷ h) ≡ g ∷ blocks_of h
+  pub blocks_more : {g : Grant} → tells_block x h ≡ Some g → blocks_of (x ∷ h) ≡ g ∷ blocks_of h
   unfolding blocks_of those
   blocks_more e = rw (grants_more x h (block_first e), block_full e)
 
-  pub blocks_same : tells_block x h ≡ none → blocks_of (x ∷ h) ≡ blocks_of h
+  pub blocks_same : tells_block x h ≡ None → blocks_of (x ∷ h) ≡ blocks_of h
   unfolding blocks_of those tells_block
   blocks_same e = go (first_grant x h) refl
     where
-      pass : (v : Grant) (t : Bool) → nonempty v ≡ t → when t v ≡ none → those nonempty (v ∷ first_grants h) ≡ those nonempty (first_grants h)
+      pass : (v : Grant) (t : Bool) → nonempty v ≡ t → when t v ≡ None → those nonempty (v ∷ first_grants h) ≡ those nonempty (first_grants h)
       pass v true q d = none_some (sym d)
       pass v false q d = rw q
 
       go : (o : Option Grant) → first_grant x h ≡ o → those nonempty (first_grants (x ∷ h)) ≡ those nonempty (first_grants h)
-      go none q = ap (those nonempty) (grants_same x h q)
-      go (some v) q = ap (those nonempty) (grants_more x h q) ∙ pass v (nonempty v) refl (rw q at e)
+      go None q = ap (those nonempty) (grants_same x h q)
+      go (Some v) q = ap (those nonempty) (grants_more x h q) ∙ pass v (nonempty v) refl (rw q at e)
 
 -- a walk from block to block: what it passes over, a turn, and the end
 module _ (log : List ℕ) where

@@ -2,7 +2,7 @@
 use mathlib.Core.Path.{◌≡◌, sym, ap, ◌∙◌}
 use mathlib.Core.Bool.{Bool, true, false, not}
 use mathlib.Core.List.{List, [], ◌∷◌}
-use mathlib.Core.Option.{Option, none, some}
+use Rattle.std.specs.Prelude.{Option, None, Some}
 use Prim.Native.Nat.{ℕ, suc, ◌-◌, ◌≤◌, ◌<◌}
 use native.Mathlib.Omega.{arith}
 use lib.Dec.{eqb, leb}
@@ -88,11 +88,11 @@ module _ (x : TraceRecord) where
 
     pub first_grant_case : {k : ℕ} {r : Case} → k ≡ x.kind → k ≡ 11 → n ≡ 0 → r ≡ first_fault (grant_by x) (blocks_of (hist log count))
         → r ≡ ids_at x (hist log count)
-    first_grant_case e q z y = y ∙ sym (grant_case (hist log count) none e q (found ∙ ap (grant_numbered log) z))
+    first_grant_case e q z y = y ∙ sym (grant_case (hist log count) None e q (found ∙ ap (grant_numbered log) z))
 
     pub again_case : {k : ℕ} {r : Case} {old : List ℕ} → k ≡ x.kind → k ≡ 11 → (n ≡ 0 → ⊥) → old ≡ bytes_at (n - 1) log
         → r ≡ fault_if (not (grant_eqb (grant_by x) (grant_by (decode old)))) (fault 1 (x.b ∷ [])) → r ≡ ids_at x (hist log count)
     again_case {r = r} {old = old} e q z o y =
         let m : n ≡ suc (n - 1) = omega arith in
         let u : grant_by (record_at log (n - 1)) ≡ grant_by (decode old) = ap grant_by (sym (record_bytes log (n - 1) o)) in
-        y ∙ sym (grant_case (hist log count) (some (grant_by (decode old))) e q (found ∙ ap (grant_numbered log) m ∙ ap some u))
+        y ∙ sym (grant_case (hist log count) (Some (grant_by (decode old))) e q (found ∙ ap (grant_numbered log) m ∙ ap Some u))

@@ -2,7 +2,7 @@
 use mathlib.Core.Path.{◌≡◌, refl, sym, ap, ◌∙◌}
 use mathlib.Core.Bool.{Bool, true, false, cond, ◌&&◌}
 use mathlib.Core.List.{List, ◌∷◌}
-use mathlib.Core.Option.{Option, none, some}
+use Rattle.std.specs.Prelude.{Option, None, Some}
 use Prim.Native.Nat.{ℕ, zero, suc, ◌+◌, ◌*◌, ◌<◌, max}
 use native.Mathlib.Omega.{arith}
 use lib.ListN.{length}
@@ -46,9 +46,9 @@ module _ (x : TraceRecord) where
         numbered (suc m) y = refl
 
 -- nothing is told, where it is found that nothing is
-none_of : {A : Type 0} (o : Option A) → false ≡ is_some o → o ≡ none
-none_of none e = refl
-none_of (some a) e = never e refl
+none_of : {A : Type 0} (o : Option A) → false ≡ is_some o → o ≡ None
+none_of None e = refl
+none_of (Some a) e = never e refl
 
 module _ (x : TraceRecord) (h : History) where
   -- a record has a block where it has a first grant that is not empty
@@ -56,9 +56,9 @@ module _ (x : TraceRecord) (h : History) where
   block_by {first} {full} p q = rw (p, q) (go (first_grant x h) (nonempty (grant_by x)) refl refl)
     where
       go : (o : Option Grant) (t : Bool) → first_grant x h ≡ o → nonempty (grant_by x) ≡ t → is_some o && t ≡ is_some (tells_block x h)
-      go none t e d = rw (block_none x h e)
-      go (some g) true e d = rw (block_new x h e (rw (← grant_is x h e) d))
-      go (some g) false e d = rw (block_empty x h e (rw (← grant_is x h e) d))
+      go None t e d = rw (block_none x h e)
+      go (Some g) true e d = rw (block_new x h e (rw (← grant_is x h e) d))
+      go (Some g) false e d = rw (block_empty x h e (rw (← grant_is x h e) d))
 
   -- the latest block and the greatest last, one record on
   link_next : {block : Bool} {below n : ℕ} → block ≡ is_some (tells_block x h) → length h ≡ n → below ≡ latest_block h
@@ -66,8 +66,8 @@ module _ (x : TraceRecord) (h : History) where
   link_next {block} {below} {n} e l b = rw e (go (tells_block x h) refl)
     where
       go : (o : Option Grant) → tells_block x h ≡ o → cond (is_some o) (n + 1) below ≡ block_link x h
-      go none q = b ∙ sym (latest_else block_bucket 0 x h (λ z. none_some (sym q ∙ in_block x h z)))
-      go (some g) q = omega (arith, latest_here block_bucket 0 x h (block_in x h q))
+      go None q = b ∙ sym (latest_else block_bucket 0 x h (λ z. none_some (sym q ∙ in_block x h z)))
+      go (Some g) q = omega (arith, latest_here block_bucket 0 x h (block_in x h q))
 
   last_next : {block : Bool} {last top : ℕ} → block ≡ is_some (tells_block x h) → last ≡ x.e → top ≡ greatest_of_lasts (blocks_of h)
       → cond block (max last top) top ≡ last_after x h
@@ -75,8 +75,8 @@ module _ (x : TraceRecord) (h : History) where
   last_next {block} {last} {top} e l t = rw e (go (tells_block x h) refl)
     where
       go : (o : Option Grant) → tells_block x h ≡ o → cond (is_some o) (max last top) top ≡ last_after x h
-      go none q = t ∙ ap greatest_of_lasts (sym (blocks_same x h q))
-      go (some g) q = rw (blocks_more x h q, ← block_is x h q, l, t)
+      go None q = t ∙ ap greatest_of_lasts (sym (blocks_same x h q))
+      go (Some g) q = rw (blocks_more x h q, ← block_is x h q, l, t)
 
 -- the two words of a record
 pub marked : {cap count last below top v w : ℕ} {block : Bool} {work mid work' : List ℕ} → count < cap

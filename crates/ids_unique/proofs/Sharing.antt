@@ -3,7 +3,7 @@
 use mathlib.Core.Path.{◌≡◌, refl, sym, ap, ◌∙◌}
 use mathlib.Core.Bool.{Bool, true, false, cond, ◌&&◌, ◌||◌, or-false, or_assoc}
 use mathlib.Core.List.{List, [], ◌∷◌}
-use mathlib.Core.Option.{Option, none, some}
+use Rattle.std.specs.Prelude.{Option, None, Some}
 use Prim.Native.Nat.{ℕ, ◌-◌, ◌<◌, max}
 use native.Mathlib.Omega.{arith}
 use lib.Dec.{ltb, leb}
@@ -72,20 +72,20 @@ module _ (g : Grant) where
 
   -- its first is that of the walk; where there is none no block shares an id
   abbrev Known : List Grant → Option Grant → Type 0
-  Known bs none = (top_of g.last bs ≡ 0) × (any_of (shares g) bs ≡ false)
-  Known bs (some m) = m.first ≡ top_of g.last bs
+  Known bs None = (top_of g.last bs ≡ 0) × (any_of (shares g) bs ≡ false)
+  Known bs (Some m) = m.first ≡ top_of g.last bs
 
   known_more : (o : Grant) (os : List Grant) (t : Bool) (b : Option Grant) → leb o.first g.last ≡ t → Known os b
       → Known (o ∷ os) (cond t (greater (λ v. v.first) o b) b)
   unfolding top_of any_of
-  known_more o os true none e k = rw e (omega arith)
-  known_more o os true (some m) e k = go (ltb m.first o.first) refl
+  known_more o os true None e k = rw e (omega arith)
+  known_more o os true (Some m) e k = go (ltb m.first o.first) refl
     where
-      go : (u : Bool) → ltb m.first o.first ≡ u → Known (o ∷ os) (cond u (some o) (some m))
+      go : (u : Bool) → ltb m.first o.first ≡ u → Known (o ∷ os) (cond u (Some o) (Some m))
       go true d = rw e (omega (arith, ltb-true m.first o.first d))
       go false d = rw e (omega (arith, ltb-false m.first o.first d))
-  known_more o os false none e k = rw e k
-  known_more o os false (some m) e k = rw e k
+  known_more o os false None e k = rw e k
+  known_more o os false (Some m) e k = rw e k
 
   known : (bs : List Grant) → Known bs (best bs)
   unfolding top_of any_of greatest_of
@@ -103,8 +103,8 @@ module _ (g : Grant) where
       go : (u : Bool) (b : Option Grant) → any_of (shares g) bs ≡ u → Known bs b → s.top ≡ top_of g.last bs
           → fault_if u (case_of (λ o. fault 3 (g.index ∷ o.first ∷ [])) b) ≡ fault_if u (fault 3 (g.index ∷ s.top ∷ []))
       go false b d k t = refl
-      go true none d k t = never d k.1
-      go true (some m) d k t = ap (λ (n : ℕ). fault 3 (g.index ∷ n ∷ [])) (k ∙ sym t)
+      go true None d k t = never d k.1
+      go true (Some m) d k t = ap (λ (n : ℕ). fault 3 (g.index ∷ n ∷ [])) (k ∙ sym t)
 
   -- a block above the greatest last shares nothing
   pub above_all : (bs : List Grant) → greatest_of_lasts bs < g.first → any_of (shares g) bs ≡ false

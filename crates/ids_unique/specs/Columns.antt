@@ -1,7 +1,6 @@
 -- The columns of `IdsUnique`: the latest block and the greatest last, each as of every record. What they hold, and what a note
 -- promises.
-use Rattle.std.specs.Prelude.{◌≡◌, Bool, true, false, List, [], ◌∷◌, ℕ, ◌+◌, ◌*◌, ◌≤◌, ◌<◌, max, length, get_or}
-use Rattle.std.proofs.Math.Option.{some}
+use Rattle.std.specs.Prelude.{◌≡◌, Bool, true, false, List, [], ◌∷◌, ℕ, ◌+◌, ◌*◌, ◌≤◌, ◌<◌, max, length, get_or, Some}
 use Rattle.record.specs.Records.{TraceRecord}
 use Rattle.rules.specs.History.{History, Tells, is_kind, when, given, is_some}
 use Rattle.rules.specs.IdsUnique.{Grant, nonempty, blocks_of}
@@ -16,7 +15,7 @@ tells_block x h = given (λ g. when (nonempty g) g) (first_grant x h)
 
 -- the records with a block, as one chain
 unfoldable pub block_bucket : Tells ℕ
-block_bucket x h = given (λ g. some 0) (tells_block x h)
+block_bucket x h = given (λ g. Some 0) (tells_block x h)
 
 -- the number of the latest record with a block, 0 where there is none
 abbrev pub latest_block : History → ℕ

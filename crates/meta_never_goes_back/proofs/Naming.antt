@@ -2,7 +2,7 @@
 use mathlib.Core.Path.{◌≡◌, refl, sym, ap, ◌∙◌}
 use mathlib.Core.Bool.{Bool, true, false, cond}
 use mathlib.Core.List.{List, [], ◌∷◌}
-use mathlib.Core.Option.{some}
+use Rattle.std.specs.Prelude.{Some}
 use Prim.Native.Nat.{ℕ, suc, ◌+◌, ◌-◌, ◌*◌, ◌%◌, ◌≤◌, ◌<◌}
 use native.Mathlib.Decide.{ℕ_discrete}
 use native.Mathlib.Omega.{arith}
@@ -141,7 +141,7 @@ indexed_clear z = record { names = column_clear name_as_of z }
 
 -- ---- the list of names, one name at a time
 
-names_kept : (x : TraceRecord) (h : History) → (name_bucket x h ≡ some 0 → ⊥) → names (x ∷ h) ≡ names h
+names_kept : (x : TraceRecord) (h : History) → (name_bucket x h ≡ Some 0 → ⊥) → names (x ∷ h) ≡ names h
 unfolding name_bucket
 names_kept x h n = go (is_won x) refl
   where

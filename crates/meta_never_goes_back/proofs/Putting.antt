@@ -2,7 +2,7 @@
 use mathlib.Core.Path.{◌≡◌, refl, sym, ap, ◌∙◌}
 use mathlib.Core.Bool.{Bool, not}
 use mathlib.Core.List.{List, [], ◌∷◌}
-use mathlib.Core.Option.{Option, none, some}
+use Rattle.std.specs.Prelude.{Option, None, Some}
 use Prim.Native.Nat.{ℕ, zero, suc, ◌<◌}
 use native.Mathlib.Omega.{arith}
 use Rattle.record.specs.Records.{TraceRecord, decode}
@@ -50,14 +50,14 @@ standing_at : (log : List ℕ) (n : ℕ) {v : Entry} → Mem v (standing (hist l
 unfolding standing
 standing_at log n m = told_at log n (told_by tells_put (hist log n) (firsts_told same_place tells_put (hist log n) m))
 
-pub found_at_lem : (range generation : ℕ) (log : List ℕ) (n : ℕ) (v : Entry) → first_at_generation range generation (hist log n) ≡ some v → PutAt log n v
+pub found_at_lem : (range generation : ℕ) (log : List ℕ) (n : ℕ) (v : Entry) → first_at_generation range generation (hist log n) ≡ Some v → PutAt log n v
 found_at_lem range generation log n v e = by_found (first_at_generation range generation (hist log n)) e
     (first_at_generation_right range generation (hist log n))
   where
-    by_found : (o : Option Entry) → o ≡ some v
+    by_found : (o : Option Entry) → o ≡ Some v
         → Looked (Having range generation) (Soonest (Having range generation) (standing (hist log n))) (standing (hist log n)) o → PutAt log n v
-    by_found none q w = none_some q
-    by_found (some u) q w = let z : u ≡ v = cc in rw (sym z) (standing_at log n w.mem)
+    by_found None q w = none_some q
+    by_found (Some u) q w = let z : u ≡ v = cc in rw (sym z) (standing_at log n w.mem)
 
 -- ---- the case by the record that was found
 
@@ -84,12 +84,12 @@ module _ (x : TraceRecord) (log : List ℕ) where
     e : f ≡ found_by (first_at_generation x.a x.d (hist log n))
     e = g ∙ ap (λ (m : ℕ). found_by (first_at_generation m generation (hist log n))) a ∙ ap (λ (m : ℕ). found_by (first_at_generation x.a m (hist log n))) d
 
-    none_at : {number : ℕ} {r : Case} → found_by none ≡ At number → r ≡ named_fault x none
+    none_at : {number : ℕ} {r : Case} → found_by None ≡ At number → r ≡ named_fault x None
     none_at q = absurd (let z : ◌≡◌ {A = ℕ} 0 1 = cc in omega arith)
 
-    by_entry : (v : Entry) {number : ℕ} {r : Case} → PutAt log n v → found_by (some v) ≡ At number
+    by_entry : (v : Entry) {number : ℕ} {r : Case} → PutAt log n v → found_by (Some v) ≡ At number
         → ((k : ℕ) → number ≡ suc k → k < n → r ≡ by_test (differs_from x (held_by (record_at log k))))
-        → r ≡ named_fault x (some v)
+        → r ≡ named_fault x (Some v)
     by_entry v {number} p q t =
         let z : v.number ≡ number = cc in
         t p.place (sym z ∙ p.number) p.below ∙ ap (λ (w : Held). by_test (differs_from x w)) (sym p.held)
@@ -101,13 +101,13 @@ module _ (x : TraceRecord) (log : List ℕ) where
     named_at {number} {r} q t = go (first_at_generation x.a x.d (hist log n)) refl
       where
         go : (o : Option Entry) → first_at_generation x.a x.d (hist log n) ≡ o → r ≡ named_fault x o
-        go none u = none_at (ap found_by (sym u) ∙ sym e ∙ q)
-        go (some v) u = by_entry v (found_at_lem x.a x.d log n v u) (ap found_by (sym u) ∙ sym e ∙ q) t
+        go None u = none_at (ap found_by (sym u) ∙ sym e ∙ q)
+        go (Some v) u = by_entry v (found_at_lem x.a x.d log n v u) (ap found_by (sym u) ∙ sym e ∙ q) t
 
     -- it gave nothing
     pub named_none : {r : Case} → f ≡ Nothing → r ≡ fault 1 (x.a ∷ x.d ∷ x.b ∷ []) → r ≡ named_fault x (first_at_generation x.a x.d (hist log n))
     named_none {r} q t = go (first_at_generation x.a x.d (hist log n)) refl
       where
         go : (o : Option Entry) → first_at_generation x.a x.d (hist log n) ≡ o → r ≡ named_fault x o
-        go none u = t
-        go (some v) u = let z : At v.number ≡ Nothing = ap found_by (sym u) ∙ sym e ∙ q in absurd (let y : ◌≡◌ {A = ℕ} 0 1 = cc in omega arith)
+        go None u = t
+        go (Some v) u = let z : At v.number ≡ Nothing = ap found_by (sym u) ∙ sym e ∙ q in absurd (let y : ◌≡◌ {A = ℕ} 0 1 = cc in omega arith)

@@ -3,7 +3,7 @@ use mathlib.Core.Path.{◌≡◌, sym, ap, ◌∙◌}
 use mathlib.Core.Bool.{true}
 use mathlib.Core.List.{List, ◌∷◌}
 use mathlib.Core.Logic.{◌⊎◌, inl, inr, ⊎_elim}
-use mathlib.Core.Option.{Option, none}
+use Rattle.std.specs.Prelude.{Option, None}
 use Prim.Native.Nat.{ℕ, ◌-◌, ◌≤◌, ◌<◌}
 use native.Mathlib.Omega.{arith}
 use Rattle.record.specs.Keys.{Key, key_in, Lt, Le}
@@ -31,7 +31,7 @@ pub record Seen (log : List ℕ) (n : ℕ) (c : Key) (best : Option Name) (next 
   pub stand : standing_name (names (hist log n)) c ≡ greater_of index_of best (standing_name (names (hist log i)) c)
   pub gap : (b : Key) → Mem b (bounds (names (hist log n))) → Lt c b → Le next b ⊎ Mem b (bounds (names (hist log i)))
 
-seen_first : {log : List ℕ} {n i : ℕ} (c next : Key) → Down log n i → Seen log n c none next i
+seen_first : {log : List ℕ} {n i : ℕ} (c next : Key) → Down log n i → Seen log n c None next i
 seen_first {log} c next d = record {
   here = d.here;
   stand = ap (λ (ns : List Name). standing_name ns c) d.same ∙ sym (greater_none index_of _);

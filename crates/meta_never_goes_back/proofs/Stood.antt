@@ -2,7 +2,7 @@
 use mathlib.Core.Path.{◌≡◌, sym, ap, ◌∙◌}
 use mathlib.Core.Bool.{Bool, true, false}
 use mathlib.Core.List.{List, [], ◌∷◌}
-use mathlib.Core.Option.{Option, some}
+use Rattle.std.specs.Prelude.{Option, Some}
 use Prim.Native.Nat.{ℕ, ◌+◌, ◌-◌, ◌≤◌, ◌<◌}
 use native.Mathlib.Numerals.{add-one}
 use native.Mathlib.Omega.{arith}
@@ -31,10 +31,10 @@ stood_end c best = greatest_end index_of (covers c) best
 
 -- ---- the same by the numbers of records, as the code has them
 
-name_more : (log : List ℕ) (i : ℕ) → name_no log (i + 1) ≡ some (name_by (record_at log i))
+name_more : (log : List ℕ) (i : ℕ) → name_no log (i + 1) ≡ Some (name_by (record_at log i))
 name_more log i = ap (name_no log) (add-one i)
 
-name_of : (log : List ℕ) {b : ℕ} → (b ≡ 0 → ⊥) → name_no log b ≡ some (name_by (record_at log (b - 1)))
+name_of : (log : List ℕ) {b : ℕ} → (b ≡ 0 → ⊥) → name_no log b ≡ Some (name_by (record_at log (b - 1)))
 name_of log {b} n = let e : b ≡ b - 1 + 1 = omega arith in ap (name_no log) e ∙ name_more log (b - 1)
 
 module _ (log : List ℕ) (c : Key) (b i : ℕ) {d : Bool} {old : List ℕ} (o : old ≡ bytes_at i log) (e : d ≡ covers c (name_by (decode old))) where

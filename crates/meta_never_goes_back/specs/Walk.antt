@@ -1,7 +1,6 @@
 -- The parts of the check: a name by its record's number, the name that stands after one more, the next end of a name above
 -- a key, the names that can be in conflict with a new one, those that cover it, and a scan for one.
-use Rattle.std.specs.Prelude.{◌≡◌, Bool, true, cond, not, ◌&&◌, ◌||◌, List, ℕ, zero, suc, ◌-◌, ◌<◌, ltb, leb}
-use Rattle.std.proofs.Math.Option.{Option, none, some}
+use Rattle.std.specs.Prelude.{◌≡◌, Bool, true, cond, not, ◌&&◌, ◌||◌, List, ℕ, zero, suc, ◌-◌, ◌<◌, ltb, leb, Option, None, Some}
 use Rattle.record.specs.Keys.{Key, key_ltb}
 use Rattle.record.specs.Records.{TraceRecord}
 use Rattle.rules.specs.Descriptors.{span_of}
@@ -13,8 +12,8 @@ use Rattle.meta_never_goes_back.specs.Columns.{unsurpassed}
 
 -- the name that the record of a number gives, none for 0
 abbrev pub name_no : List ℕ → ℕ → Option Name
-name_no log zero = none
-name_no log (suc k) = some (name_by (record_at log k))
+name_no log zero = None
+name_no log (suc k) = Some (name_by (record_at log k))
 
 -- the name that stands at a key when one more, earlier than those so far, is looked at: of equal indexes the earlier
 abbrev pub stood_with : Key → Option Name → Name → Option Name

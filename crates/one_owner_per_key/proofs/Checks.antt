@@ -2,7 +2,7 @@
 use mathlib.Core.Path.{◌≡◌, refl, sym, ap, ◌∙◌}
 use mathlib.Core.Bool.{Bool, true, false, cond, not, ◌&&◌, ◌||◌, and-false}
 use mathlib.Core.List.{List}
-use mathlib.Core.Option.{Option, none, some}
+use Rattle.std.specs.Prelude.{Option, None, Some}
 use Prim.Native.Nat.{ℕ, zero, suc, ◌+◌, ◌-◌, ◌*◌, ◌≤◌, ◌<◌}
 use native.Mathlib.Omega.{arith}
 use lib.ListN.{length}
@@ -66,20 +66,20 @@ module _ (p : Span → Bool) (node range : ℕ) (log : List ℕ) (n : ℕ) {i : 
   span_is = rw e (held_span node range log n)
 
   pub met_none : i ≡ 0 → false ≡ holds p (hold_of node range (hist log n))
-  met_none z = let s : none ≡ hold_of node range (hist log n) = rw (eq-eqb i 0 z) at span_is in ap (holds p) s
+  met_none z = let s : None ≡ hold_of node range (hist log n) = rw (eq-eqb i 0 z) at span_is in ap (holds p) s
 
   pub met_some : {q : Bool} → (i ≡ 0 → ⊥) → q ≡ p (span_of 0 (record_at log (i - 1))) → q ≡ holds p (hold_of node range (hist log n))
-  met_some z g = let s : some (span_of 0 (record_at log (i - 1))) ≡ hold_of node range (hist log n) = rw (ne_eqb i 0 z) at span_is in g ∙ ap (holds p) s
+  met_some z g = let s : Some (span_of 0 (record_at log (i - 1))) ≡ hold_of node range (hist log n) = rw (ne_eqb i 0 z) at span_is in g ∙ ap (holds p) s
 
 -- ---- the lowest so far
 
-pub lower_below : (r : ℕ) (o : Option ℕ) → is_below r o ≡ true → lower (λ n. n) r o ≡ some r
-lower_below r none e = refl
-lower_below r (some b) e = rw e
+pub lower_below : (r : ℕ) (o : Option ℕ) → is_below r o ≡ true → lower (λ n. n) r o ≡ Some r
+lower_below r None e = refl
+lower_below r (Some b) e = rw e
 
 pub lower_not : (r : ℕ) (o : Option ℕ) → is_below r o ≡ false → lower (λ n. n) r o ≡ o
-lower_not r none e = never refl e
-lower_not r (some b) e = rw e
+lower_not r None e = never refl e
+lower_not r (Some b) e = rw e
 
 cond_same : (t : Bool) (o : Option ℕ) → o ≡ cond t o o
 cond_same true o = refl
@@ -96,7 +96,7 @@ module _ (r : ℕ) (o : Option ℕ) {b : Bool} (P Q : Bool) (eb : b ≡ is_below
   pub lowered_apart : {q : Bool} → q ≡ Q → q ≡ false → o ≡ cond (P && Q) (lower (λ n. n) r o) o
   lowered_apart e t = let z : Q ≡ false = sym e ∙ t in rw (z, and-false)
 
-  pub lowered_met : {p q : Bool} → b ≡ true → p ≡ P → p ≡ true → q ≡ Q → q ≡ true → some r ≡ cond (P && Q) (lower (λ n. n) r o) o
+  pub lowered_met : {p q : Bool} → b ≡ true → p ≡ P → p ≡ true → q ≡ Q → q ≡ true → Some r ≡ cond (P && Q) (lower (λ n. n) r o) o
   lowered_met t ep tp eq tq =
       let y : P ≡ true = sym ep ∙ tp in
       let z : Q ≡ true = sym eq ∙ tq in

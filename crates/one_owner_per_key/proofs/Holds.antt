@@ -3,7 +3,7 @@ use mathlib.Core.Path.{◌≡◌, refl, sym, ap, ◌∙◌}
 use mathlib.Core.Bool.{Bool, true, false, cond, not, ◌&&◌, ◌||◌, and-false, or_assoc}
 use mathlib.Core.List.{List, [], ◌∷◌}
 use mathlib.Core.Logic.{inl, inr}
-use mathlib.Core.Option.{Option, none, some}
+use Rattle.std.specs.Prelude.{Option, None, Some}
 use Prim.Native.Nat.{ℕ, zero, suc, ◌-◌, ◌≤◌, ◌<◌}
 use native.Mathlib.Omega.{arith}
 use lib.ListN.{length}
@@ -38,11 +38,11 @@ module _ (node range : ℕ) where
 
 -- the span of the record with a number, none for 0
 abbrev pub span_by : List ℕ → ℕ → Option Span
-span_by log k = cond (eqb k 0) none (some (span_of 0 (record_at log (k - 1))))
+span_by log k = cond (eqb k 0) None (Some (span_of 0 (record_at log (k - 1))))
 
 by_cases : (log : List ℕ) (n k : ℕ) (b u v : Bool)
     → span_by log (cond b (cond u (suc n) (cond v 0 k)) k)
-    ≡ cond b (cond u (some (span_of 0 (record_at log n))) (cond v none (span_by log k))) (span_by log k)
+    ≡ cond b (cond u (Some (span_of 0 (record_at log n))) (cond v None (span_by log k))) (span_by log k)
 by_cases log n k true true v = let e : suc n - 1 ≡ n = omega arith in rw (eqb-suc-zero, e)
 by_cases log n k true false true = refl
 by_cases log n k true false false = refl
@@ -58,7 +58,7 @@ held_span node range log (suc n) =
 
 -- a range is held where a record is found
 some_cases : (n k : ℕ) (s : Span) (o : Option Span) (b u v : Bool) → is_some o ≡ not (eqb k 0)
-    → is_some (cond b (cond u (some s) (cond v none o)) o) ≡ not (eqb (cond b (cond u (suc n) (cond v 0 k)) k) 0)
+    → is_some (cond b (cond u (Some s) (cond v None o)) o) ≡ not (eqb (cond b (cond u (suc n) (cond v 0 k)) k) 0)
 some_cases n k s o true true v e = rw eqb-suc-zero
 some_cases n k s o true false true e = refl
 some_cases n k s o true false false e = e
@@ -204,7 +204,7 @@ module _ (node range : ℕ) (log : List ℕ) (n : ℕ) where
   began_step : (b p a v : Bool) → is_by node (record_at log n) ≡ b → is_holding (record_at log n) ≡ p → eqb (record_at log n).a range ≡ a
       → is_ending range (record_at log n) ≡ v
       → (has_hold node range (hist log n) ≡ true → Began node range log (latest_end node (hist log n)) n)
-      → is_some (cond b (cond (p && a) (some (span_of 0 (record_at log n))) (cond v none (hold_of node range (hist log n))))
+      → is_some (cond b (cond (p && a) (Some (span_of 0 (record_at log n))) (cond v None (hold_of node range (hist log n))))
       (hold_of node range (hist log n))) ≡ true
       → Began node range log (latest_end node (hist log (suc n))) (suc n)
   began_step false p a v eb ep ea ev ih h = later (rw eb) (ih h)

@@ -3,7 +3,7 @@ use mathlib.Core.Path.{◌≡◌, refl, sym, ap, ◌∙◌}
 use mathlib.Core.Bool.{Bool, true, ◌&&◌}
 use mathlib.Core.List.{List}
 use mathlib.Core.Logic.{◌⊎◌, inl, inr}
-use mathlib.Core.Option.{Option, none}
+use Rattle.std.specs.Prelude.{Option, None}
 use Prim.Native.Nat.{ℕ, ◌-◌, ◌≤◌, ◌<◌}
 use native.Mathlib.Omega.{arith}
 use native.Mathlib.Decide.{dec_lt}
@@ -47,7 +47,7 @@ began_in {node} {r} {log} n e b l = record {
 
 module _ (p : ℕ → Bool) (s : Span) (node : ℕ) (log : List ℕ) (n : ℕ) where
   pub walked_first : {ended i : ℕ} → ended ≡ latest_end node (hist log n) → i ≡ latest_newly node (hist log n)
-      → Walked (met p s node (hist log n)) node log ended i none
+      → Walked (met p s node (hist log n)) node log ended i None
   walked_first {ended} {i} d e = record {
     here = rw e (number_is (newly_holds node) log n);
     sound = none_sound (met p s node (hist log n));

@@ -3,7 +3,7 @@ use mathlib.Core.Path.{◌≡◌, refl, sym, ap, ◌∙◌}
 use mathlib.Core.Bool.{Bool, true, false}
 use mathlib.Core.List.{List, [], ◌∷◌}
 use mathlib.Core.Logic.{◌⊎◌, inl, inr}
-use mathlib.Core.Option.{none, some}
+use Rattle.std.specs.Prelude.{None, Some}
 use Prim.Native.Nat.{ℕ, ◌+◌, ◌*◌, ◌≤◌, ◌<◌}
 use native.Mathlib.Omega.{arith}
 use lib.ListN.{length, get_or}
@@ -32,11 +32,11 @@ owners_clear z = record {
 -- ---- a record without a node
 
 module _ (cap : ℕ) (h : History) (x : TraceRecord) (m : x.node ≡ Missing) where
-  no_hold : by_hold cap x h ≡ none
+  no_hold : by_hold cap x h ≡ None
   unfolding by_hold
   no_hold = rw m
 
-  no_owner : by_owner cap x h ≡ none
+  no_owner : by_owner cap x h ≡ None
   unfolding by_owner
   no_owner = rw m
 
@@ -99,15 +99,15 @@ same_above l k = record { word = λ j m. k.outside _ (inr (omega arith)) }
 
 -- the share of a mixed number
 module _ (cap : ℕ) (h : History) (x : TraceRecord) (n : NodeId) (m : x.node ≡ Marked n) where
-  hold_in : is_chained x ≡ true → by_hold cap x h ≡ some (bucket_by_two cap n.0 x.a)
+  hold_in : is_chained x ≡ true → by_hold cap x h ≡ Some (bucket_by_two cap n.0 x.a)
   unfolding by_hold
   hold_in e = rw (m, e)
 
-  hold_out : is_chained x ≡ false → by_hold cap x h ≡ none
+  hold_out : is_chained x ≡ false → by_hold cap x h ≡ None
   unfolding by_hold
   hold_out e = rw (m, e)
 
-  owner_in : by_owner cap x h ≡ some (bucket_by cap n.0)
+  owner_in : by_owner cap x h ≡ Some (bucket_by cap n.0)
   unfolding by_owner
   owner_in = rw m
 
@@ -148,7 +148,7 @@ module _ (cap : ℕ) (h : History) (x : TraceRecord) (n : NodeId) (m : x.node �
               chained_agrees
               (same_then (same_below (omega arith) k2) (same_below (omega arith) k3))
               (same_then (same_below (omega arith) k2) (same_below (omega arith) k3))
-              (entered len l bb.1 (omega arith) (owner_in ∙ ap some (sym bb.0)) p1
+              (entered len l bb.1 (omega arith) (owner_in ∙ ap Some (sym bb.0)) p1
               (chained_agrees (same_above (omega arith) k0) (same_above (omega arith) k0) ix.nodes));
           newly =
               column_agrees (same_below (omega arith) k3)

@@ -3,7 +3,7 @@ use mathlib.Core.Path.{◌≡◌, refl, sym, ap, ◌∙◌}
 use mathlib.Core.Bool.{Bool, true, false, ◌&&◌, ◌||◌, or-true}
 use mathlib.Core.List.{List}
 use mathlib.Core.Logic.{inl, inr}
-use mathlib.Core.Option.{some}
+use Rattle.std.specs.Prelude.{Some}
 use Prim.Native.Nat.{ℕ, suc, ◌+◌, ◌-◌, ◌*◌, ◌≤◌, ◌<◌}
 use native.Mathlib.Omega.{arith}
 use native.Mathlib.Nat.{mod-lt, div-lt_iff_lt-mul}
@@ -35,7 +35,7 @@ Walking t f b log top i = Stands f b log (up_to top (λ n. latest_number t (hist
 
 -- what passes is in the bucket
 pub record Within (t : TraceRecord → History → Bool) (f : Tells ℕ) (b : ℕ) : Type 0 where
-  pub is : (x : TraceRecord) (h : History) → t x h ≡ true → f x h ≡ some b
+  pub is : (x : TraceRecord) (h : History) → t x h ≡ true → f x h ≡ Some b
 
 module _ {t : TraceRecord → History → Bool} {f : Tells ℕ} {b : ℕ} (s : Within t f b) (log : List ℕ) (top : ℕ) where
   abbrev to : ℕ → ℕ
@@ -86,7 +86,7 @@ two_below cap a b l = bucket_below cap (mix a + fold b) l
 pub entered_by_node : (cap node : ℕ) → Within (λ x _. is_by node x) (by_owner cap) (bucket_by cap node)
 unfolding by_owner
 entered_by_node cap node = record {
-  is = λ x h e. by_marked (λ n. some (bucket_by cap n)) (node_of cap) (λ n. refl) node x.node e;
+  is = λ x h e. by_marked (λ n. Some (bucket_by cap n)) (node_of cap) (λ n. refl) node x.node e;
 }
 
 -- kinds 1, 2 and 9 are chained by node and range
@@ -99,7 +99,7 @@ chained_says false false c false e h = never h refl
 
 -- a node's record of a range, if it is one of those chained, is in the bucket of both
 pub hold_within : (cap node range : ℕ) (x : TraceRecord) (h : History) → is_by node x ≡ true → is_chained x ≡ true → x.a ≡ range
-    → by_hold cap x h ≡ some (bucket_by_two cap node range)
+    → by_hold cap x h ≡ Some (bucket_by_two cap node range)
 unfolding by_hold
 hold_within cap node range x h b k a =
     by_marked (λ n. when (is_chained x) (bucket_by_two cap n x.a)) (hold_bucket cap x) (λ n. refl) node x.node b ∙ rw (k, a)

@@ -1,6 +1,5 @@
 -- What the enums of this crate say, and the ranges that a record's span may not meet.
-use Rattle.std.specs.Prelude.{Bool, true, not, List, ℕ, eqb, ltb}
-use Rattle.std.proofs.Math.Option.{Option, none, some}
+use Rattle.std.specs.Prelude.{Bool, true, not, List, ℕ, eqb, ltb, Option, None, Some}
 use Rattle.record.specs.Records.{Span}
 use Rattle.rules.specs.OneOwnerPerKey.{is_named}
 use Rattle.one_owner_per_key.specs.declared.group.Group.{Group}
@@ -12,13 +11,13 @@ use Rattle.one_owner_per_key.specs.declared.meeting.Others.TheVariants.{Than, No
 
 -- the group that a start names
 abbrev pub group_in : Group → Option ℕ
-group_in (Named g) = some g
-group_in Unnamed = none
+group_in (Named g) = Some g
+group_in Unnamed = None
 
 -- the range that was met
 abbrev pub range_in : Meeting → Option ℕ
-range_in (Range r) = some r
-range_in Apart = none
+range_in (Range r) = Some r
+range_in Apart = None
 
 -- overlap looks at the ranges other than the record's own, install at those that no start in the record names
 abbrev pub passes : Others → List Span → ℕ → Bool
@@ -27,5 +26,5 @@ passes (NotNamed tenant) ss r = not (is_named tenant ss r)
 
 -- a range is below the lowest so far
 abbrev pub is_below : ℕ → Option ℕ → Bool
-is_below r none = true
-is_below r (some b) = ltb r b
+is_below r None = true
+is_below r (Some b) = ltb r b

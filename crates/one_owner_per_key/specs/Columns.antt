@@ -1,6 +1,5 @@
 -- The columns that `OneOwnerPerKey` owns in the work area, each word a written function of the history.
-use Rattle.std.specs.Prelude.{◌≡◌, Bool, true, false, cond, ◌&&◌, ◌||◌, List, ◌∷◌, ℕ, ◌+◌, ◌-◌, ◌*◌, ◌/◌, ◌%◌, ◌≤◌, ◌<◌, length, get_or, eqb}
-use Rattle.std.proofs.Math.Option.{Option, none, some}
+use Rattle.std.specs.Prelude.{◌≡◌, Bool, true, false, cond, ◌&&◌, ◌||◌, List, ◌∷◌, ℕ, ◌+◌, ◌-◌, ◌*◌, ◌/◌, ◌%◌, ◌≤◌, ◌<◌, length, get_or, eqb, Option, None, Some}
 use Rattle.record.specs.declared.named.Node.{Node}
 use Rattle.record.specs.declared.named.Node.TheVariants.{Marked, Missing}
 use Rattle.record.specs.Records.{TraceRecord}
@@ -19,7 +18,7 @@ is_chained x = is_kind 1 x || is_kind 2 x || is_kind 7 x || is_kind 9 x || (is_k
 
 -- the bucket of a record by its node: none without one
 abbrev pub hold_bucket : ℕ → TraceRecord → Node → Option ℕ
-hold_bucket cap x Missing = none
+hold_bucket cap x Missing = None
 hold_bucket cap x (Marked n) = when (is_chained x) (bucket_by_two cap n.0 x.a)
 
 unfoldable pub by_hold : ℕ → Tells ℕ
@@ -27,8 +26,8 @@ by_hold cap x h = hold_bucket cap x x.node
 
 -- every marked record, by its node
 abbrev pub node_of : ℕ → Node → Option ℕ
-node_of cap Missing = none
-node_of cap (Marked n) = some (bucket_by cap n.0)
+node_of cap Missing = None
+node_of cap (Marked n) = Some (bucket_by cap n.0)
 
 unfoldable pub by_owner : ℕ → Tells ℕ
 by_owner cap x h = node_of cap x.node

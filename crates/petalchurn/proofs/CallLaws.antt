@@ -2,7 +2,7 @@
 use mathlib.Core.Path.{◌≡◌, refl, sym, ap, ◌∙◌, subst}
 use mathlib.Core.Bool.{Bool, true, false, cond}
 use mathlib.Core.List.{List, ◌∷◌, ◌++◌}
-use mathlib.Core.Option.{some}
+use Rattle.std.specs.Prelude.{Some}
 use Prim.Native.Nat.{ℕ, ◌+◌, ◌*◌, ◌≤◌, ◌<◌}
 use native.Mathlib.Omega.{arith}
 use lib.ListN.{length, get_or, drop, set}
@@ -71,10 +71,10 @@ module _ (state log work bytes : List ℕ) where
     are : RowsOf own (rows_part state)
     are = rows_own (opening_in state) (get_or state 0 0) (get_or state 1 0) (get_or state 2 0) (rows_part state) (part_size state size)
 
-    own_is : {j : Judge} → state_in state ≡ some j → own ≡ j
+    own_is : {j : Judge} → state_in state ≡ Some j → own ≡ j
     own_is e = judge_part state size ∙ fit_of state t e
 
-    number : {j : Judge} → state_in state ≡ some j → r ≡ push_refusal (state_of j log work) bytes
+    number : {j : Judge} → state_in state ≡ Some j → r ≡ push_refusal (state_of j log work) bytes
     number e = push_number own log work (rows_part state) bytes are p ∙ ap (λ (i : Judge). push_refusal (state_of i log work) bytes) (own_is e)
 
     pub rows_left : length rows' ≡ rows_size

@@ -3,7 +3,7 @@
 use mathlib.Core.Path.{◌≡◌, refl, sym, ap, ◌∙◌, subst}
 use mathlib.Core.Bool.{Bool, true, false, cond}
 use mathlib.Core.List.{List, [], ◌∷◌}
-use mathlib.Core.Option.{none, some}
+use Rattle.std.specs.Prelude.{None, Some}
 use Prim.Native.Nat.{ℕ}
 use lib.ListN.{length}
 use lib.Dec.{eqb}
@@ -27,11 +27,11 @@ use Rattle.petalchurn.proofs.Runs.{library_ran, library_demands}
 -- ---- a call
 
 module _ (state bytes : List ℕ) {b : Bool} (t : is_state state ≡ b) where
-  refusal_by_lem : words_refusal (state_in state) bytes ≡ words_refusal (cond b (some (judge_in state)) none) bytes
-  refusal_by_lem = ap (λ (x : Bool). words_refusal (cond x (some (judge_in state)) none) bytes) t
+  refusal_by_lem : words_refusal (state_in state) bytes ≡ words_refusal (cond b (Some (judge_in state)) None) bytes
+  refusal_by_lem = ap (λ (x : Bool). words_refusal (cond x (Some (judge_in state)) None) bytes) t
 
-  left_by_lem : words_left (state_in state) bytes ≡ words_left (cond b (some (judge_in state)) none) bytes
-  left_by_lem = ap (λ (x : Bool). words_left (cond x (some (judge_in state)) none) bytes) t
+  left_by_lem : words_left (state_in state) bytes ≡ words_left (cond b (Some (judge_in state)) None) bytes
+  left_by_lem = ap (λ (x : Bool). words_left (cond x (Some (judge_in state)) None) bytes) t
 
 module _ (state bytes : List ℕ) where
   pub tally_unfit : is_state state ≡ false → TalliesWords state bytes 5 bytes

@@ -2,7 +2,7 @@
 use mathlib.Core.Path.{◌≡◌, refl, sym, ap, ◌∙◌, subst}
 use mathlib.Core.Bool.{Bool, true, false, cond, not, ◌&&◌, ◌||◌}
 use mathlib.Core.List.{List, ◌++◌}
-use mathlib.Core.Option.{none, some}
+use Rattle.std.specs.Prelude.{None, Some}
 use Prim.Native.Nat.{ℕ, ◌-◌, ◌^◌, ◌≤◌, ◌<◌}
 use native.Mathlib.Omega.{arith}
 use native.Mathlib.Decide.{dec_lt, ℕ_discrete}
@@ -91,7 +91,7 @@ module _ (state log work rec reports : List ℕ) (size : length state ≡ state_
 
   -- what is shown of the state's own judge is shown of every judge that it stands for: there is one
   of_state : {n : ℕ} {rs : List Report} → Previews (state_of own log work) rec n rs (ticket_for (state_of own log work) rec)
-      → (j : Judge) → state_in state ≡ some j → Previews (state_of j log work) rec n rs (ticket_for (state_of j log work) rec)
+      → (j : Judge) → state_in state ≡ Some j → Previews (state_of j log work) rec n rs (ticket_for (state_of j log work) rec)
   of_state {n} {rs} q j e =
       subst (λ (i : Judge). Previews (state_of i log work) rec n rs (ticket_for (state_of i log work) rec))
       (judge_by_lem state ∙ fit_of state (some_state state e) e) q
@@ -184,8 +184,8 @@ module _ (state log work rec reports ticket : List ℕ) where
     }
 
     module _ {r : ℕ} {reports' : List ℕ} (t : is_state state ≡ true) (p : ShowsWords state log work rec reports r reports') where
-      state_of_lem : state_in state ≡ some (judge_in state)
-      state_of_lem = ap (λ (b : Bool). cond b (some (judge_in state)) none) t
+      state_of_lem : state_in state ≡ Some (judge_in state)
+      state_of_lem = ap (λ (b : Bool). cond b (Some (judge_in state)) None) t
 
       number : r ≡ push_refusal (state_of (judge_in state) log work) rec
       number = (p.shows (judge_in state) state_of_lem).refuses
@@ -229,27 +229,27 @@ module _ (state log work rec reports ticket : List ℕ) where
 -- ---- a commit
 
 -- what bytes are a ticket, and which
-some_by : (b : Bool) (x k : Ticket) → cond b (some x) none ≡ some k → (b ≡ true) × (x ≡ k)
+some_by : (b : Bool) (x k : Ticket) → cond b (Some x) None ≡ Some k → (b ≡ true) × (x ≡ k)
 some_by true x k e = (refl, cc)
 some_by false x k e = absurd (let z : ◌≡◌ {A = ℕ} 0 1 = cc in omega arith)
 
-none_by : (b : Bool) (x : Ticket) → cond b (some x) none ≡ none → b ≡ false
+none_by : (b : Bool) (x : Ticket) → cond b (Some x) None ≡ None → b ≡ false
 none_by true x e = absurd (let z : ◌≡◌ {A = ℕ} 0 1 = cc in omega arith)
 none_by false x e = refl
 
 -- what is written reads back
-pub ticket_back : (k : Ticket) → k.count < 256 ^ count_size → ticket_in (bytes_of_ticket k) ≡ some k
+pub ticket_back : (k : Ticket) → k.count < 256 ^ count_size → ticket_in (bytes_of_ticket k) ≡ Some k
 ticket_back k l =
     let b = ticket_has_count k.count k.rec in
     let n = ticket_count k.count k.rec l in
     let r = ticket_record k.count k.rec in
-    λ i. cond (b i) (some (ticket_of (n i) (r i))) none
+    λ i. cond (b i) (Some (ticket_of (n i) (r i))) None
 
 module _ (bytes : List ℕ) where
-  some_ticket : (k : Ticket) → ticket_in bytes ≡ some k → (has_count bytes ≡ true) × (ticket_of (count_in bytes) (record_in bytes) ≡ k)
+  some_ticket : (k : Ticket) → ticket_in bytes ≡ Some k → (has_count bytes ≡ true) × (ticket_of (count_in bytes) (record_in bytes) ≡ k)
   some_ticket k e = some_by (has_count bytes) (ticket_of (count_in bytes) (record_in bytes)) k e
 
-  none_ticket : ticket_in bytes ≡ none → has_count bytes ≡ false
+  none_ticket : ticket_in bytes ≡ None → has_count bytes ≡ false
   none_ticket e = none_by (has_count bytes) (ticket_of (count_in bytes) (record_in bytes)) e
 
   -- what follows the count, as the code lends it
@@ -267,12 +267,12 @@ module _ (state log work ticket : List ℕ) where
 
   module _ (t : is_state state ≡ true) where
     -- the judge of the state's numbers
-    lent_by : (j : Judge) → state_in state ≡ some j → lends (judge_in state) log work ≡ lends j log work
+    lent_by : (j : Judge) → state_in state ≡ Some j → lends (judge_in state) log work ≡ lends j log work
     lent_by j e = ap (λ (i : Judge). lends i log work) (fit_of state t e)
 
     -- refused: the words are those given
-    commit_left : {r : ℕ} → (r ≡ 0 → ⊥) → ((j : Judge) → state_in state ≡ some j → ticket_in ticket ≡ none → r ≡ cond (lends j log work) 10 5)
-        → ((j : Judge) → state_in state ≡ some j → (k : Ticket) → ticket_in ticket ≡ some k → r ≡ commit_refusal (state_of j log work) k)
+    commit_left : {r : ℕ} → (r ≡ 0 → ⊥) → ((j : Judge) → state_in state ≡ Some j → ticket_in ticket ≡ None → r ≡ cond (lends j log work) 10 5)
+        → ((j : Judge) → state_in state ≡ Some j → (k : Ticket) → ticket_in ticket ≡ Some k → r ≡ commit_refusal (state_of j log work) k)
         → CommitsWords state log work ticket r state log work
     commit_left z short fit = record {
       unfit = λ e. never t (none_state state e);
@@ -298,11 +298,11 @@ module _ (state log work ticket : List ℕ) where
         (λ j e k q. sym (unfit_refusal (state_of j log work) k (sym (lent_by j e) ∙ u)))
 
     -- the judge's count, as the words have it
-    count_at : (j : Judge) → state_in state ≡ some j → get_or state 1 0 ≡ j.count
+    count_at : (j : Judge) → state_in state ≡ Some j → get_or state 1 0 ≡ j.count
     unfolding judge_in
     count_at j e = ap (λ (i : Judge). i.count) (fit_of state t e)
 
-    stale_at : (j : Judge) → state_in state ≡ some j → (k : Ticket) → ticket_in ticket ≡ some k → is_current ticket (get_or state 1 0) ≡ false
+    stale_at : (j : Judge) → state_in state ≡ Some j → (k : Ticket) → ticket_in ticket ≡ Some k → is_current ticket (get_or state 1 0) ≡ false
         → eqb k.count j.count ≡ false
     unfolding is_current
     stale_at j e k q c =

@@ -2,7 +2,7 @@
 use mathlib.Core.Path.{◌≡◌, refl, sym, ap, ◌∙◌, subst}
 use mathlib.Core.Bool.{Bool, true, false, cond}
 use mathlib.Core.List.{List, [], ◌∷◌, ◌++◌}
-use mathlib.Core.Option.{Option, none as missing, some}
+use Rattle.std.specs.Prelude.{Option, None as missing, Some}
 use Prim.Native.Nat.{ℕ, suc, ◌+◌, ◌^◌, ◌≤◌, ◌<◌}
 use native.Mathlib.Omega.{arith}
 use lib.ListN.{length, get_or, drop, replicate}
@@ -58,12 +58,12 @@ use Rattle.petalchurn.proofs.PreviewLaws.{ticket_back}
 -- what calls from a judge leave: a judge, by a run of the judge's own calls
 record Left (j : Judge) (a : Buffers) (cs : List Call) (z : Buffers) : Type 0 where
   judge : Judge
-  is : state_in z.state ≡ some judge
+  is : state_in z.state ≡ Some judge
   run : Run Indexed (state_of j a.log a.work) cs (state_of judge z.log z.work)
 
 -- what the calls after a buffer leave, from any judge that stands there after some records
 abbrev Rest : Buffers → List Call → Buffers → Type 0
-Rest b cs z = (h : History) (j : Judge) → state_in b.state ≡ some j → After Indexed h (state_of j b.log b.work) → Left j b cs z
+Rest b cs z = (h : History) (j : Judge) → state_in b.state ≡ Some j → After Indexed h (state_of j b.log b.work) → Left j b cs z
 
 -- a call that leaves the words of a judge: that judge has taken some records, so that its words read back as itself
 left_more : {a b z : Buffers} (h : History) (j i : Judge) (c : Call) (cs : List Call) → After Indexed h (state_of j a.log a.work)
@@ -74,7 +74,7 @@ left_more {a} {b} h j i c cs w p e rest =
     record { judge = l.judge; is = l.is; run = Judge-runs.more {c = c} p l.run }
 
 -- a call that leaves the buffers as they stood
-left_same : {a b z : Buffers} (h : History) (j : Judge) (cs : List Call) → state_in a.state ≡ some j
+left_same : {a b z : Buffers} (h : History) (j : Judge) (cs : List Call) → state_in a.state ≡ Some j
     → After Indexed h (state_of j a.log a.work) → b ≡ a → Rest b cs z → Left j a cs z
 left_same {z = z} h j cs e w q rest = subst (λ (x : Buffers). Rest x cs z) q rest h j e w
 
@@ -83,10 +83,10 @@ refused_number : (b : Bool) {r : ℕ} → r ≡ cond b 10 5 → r ≡ 0 → ⊥
 refused_number true e z = omega arith
 refused_number false e z = omega arith
 
-left_commit : {a b z : Buffers} (h : History) (j : Judge) (bytes : List ℕ) (r : ℕ) (cs : List Call) → state_in a.state ≡ some j
+left_commit : {a b z : Buffers} (h : History) (j : Judge) (bytes : List ℕ) (r : ℕ) (cs : List Call) → state_in a.state ≡ Some j
     → After Indexed h (state_of j a.log a.work) → CommitsWords a.state a.log a.work bytes r b.state b.log b.work
     → Rest b cs z → (k : Option Ticket) → ticket_in bytes ≡ k → Left j a (commit_of k cs) z
-left_commit h j bytes r cs e w q rest (some k) t =
+left_commit h j bytes r cs e w q rest (Some k) t =
     let f = q.fit j e k t in
     left_more h j f.judge (Judge-calls.commit k) cs w f.leaves f.words rest
 left_commit {a} h j bytes r cs e w q rest missing t =
@@ -131,7 +131,7 @@ module _ (o : Opening) (c : ℕ) (log work state : List ℕ) (r : ℕ) (work' st
 
 -- ---- what is then read and asked
 
-module _ (o : Opening) (c : ℕ) (h : History) (z : Buffers) (is : state_in z.state ≡ some (judge_in z.state)) (w : Ran Indexed c o h (state_at z)) where
+module _ (o : Opening) (c : ℕ) (h : History) (z : Buffers) (is : state_in z.state ≡ Some (judge_in z.state)) (w : Ran Indexed c o h (state_at z)) where
   j : Judge
   j = judge_in z.state
 
@@ -147,7 +147,7 @@ module _ (o : Opening) (c : ℕ) (h : History) (z : Buffers) (is : state_in z.st
       → (k : Option Ticket) → ticket_in ticket ≡ k → r ≡ commit_after c h k
   unfolding j suits
   committed_by ticket r state' log' work' q missing t = q.short j is t ∙ ap (λ (b : Bool). cond b 10 5) w.after.fits
-  committed_by ticket r state' log' work' q (some k) t =
+  committed_by ticket r state' log' work' q (Some k) t =
       (q.fit j is k t).refusal
       ∙ commit_refusal_is Indexed h (state_at z) k w.after
       ∙ ap (λ (n : ℕ). call_refusal n h (Judge-calls.commit k)) w.capacity
@@ -225,7 +225,7 @@ pub library_demands : (o : Opening) (c : ℕ) (log work state : List ℕ) (r : �
 library_demands o c log work state r work' state' n f q cs z p =
     let l = left o c log work state r work' state' n f q cs z p in
     let e = read o c log work state r work' state' n f q cs z p in
-    demands o c (taken_of c (calls_of cs) []) z (l.is ∙ ap some (sym e)) (library_ran o c log work state r work' state' n f q cs z p)
+    demands o c (taken_of c (calls_of cs) []) z (l.is ∙ ap Some (sym e)) (library_ran o c log work state r work' state' n f q cs z p)
 
 -- ---- previews
 
@@ -233,7 +233,7 @@ library_demands o c log work state r work' state' n f q cs z p =
 commit_erased : (k : Option Ticket) (cs : List Call) → erased (commit_of k cs) ≡ commit_of k (erased cs)
 unfolding erased
 commit_erased missing cs = refl
-commit_erased (some k) cs = refl
+commit_erased (Some k) cs = refl
 
 calls_erased : (cs : List HostCall) → erased (calls_of cs) ≡ calls_of (erased_calls cs)
 unfolding erased calls_of erased_calls
@@ -256,7 +256,7 @@ library_previews o c log work state r work' state' n f q cs ds y z e p v =
     subst (λ (l : List Call). Run Indexed u l (state_at y)) same (run_erased (library_run o c log work state r work' state' n f q cs y p)) in
     let other : Run Indexed u (erased (calls_of ds)) (state_at z) = run_erased (library_run o c log work state r work' state' n f q ds z v) in
     let t : state_at y ≡ state_at z = run_one [] (erased (calls_of ds)) (fresh_after o c log work f) run other in
-    let words : (b : Buffers) → state_in b.state ≡ some (judge_in b.state) → b.state ≡ state_words (judge_in b.state) =
+    let words : (b : Buffers) → state_in b.state ≡ Some (judge_in b.state) → b.state ≡ state_words (judge_in b.state) =
     λ b i. state_words_lem b.state (judge_in b.state) i in
     let is = (library_demands o c log work state r work' state' n f q cs y p).state in
     let js = (library_demands o c log work state r work' state' n f q ds z v).state in

@@ -1,6 +1,5 @@
 -- What the calls promise that open a judge, push a record, give a report, or judge a whole trace.
-use Rattle.std.specs.Prelude.{◌≡◌, true, false, cond, List, ◌∷◌, ◌++◌, ℕ, ◌+◌, ◌≤◌, ◌<◌, length, drop, replicate, eqb}
-use Rattle.std.proofs.Math.Option.{none, some}
+use Rattle.std.specs.Prelude.{◌≡◌, true, false, cond, List, ◌∷◌, ◌++◌, ℕ, ◌+◌, ◌≤◌, ◌<◌, length, drop, replicate, eqb, None, Some}
 use Rattle.rules.specs.declared.Opening.{Opening}
 use Rattle.rows.specs.Rows.{rows_size, report_words, rows_of}
 use Rattle.decision.specs.Refusals.{fits_by}
@@ -40,18 +39,18 @@ pub record PushedWords (j : Judge) (log work rec : List ℕ) (r : ℕ) (state' l
 
 -- a push: 5 where the state is none; else what a push into its judge gives. Refused, whatever the words, everything is as it stood
 pub record PushesWords (state log work rec : List ℕ) (r : ℕ) (state' log' work' : List ℕ) : Type 0 where
-  pub unfit : state_in state ≡ none → r ≡ 5
-  pub fit : (j : Judge) → state_in state ≡ some j → PushedWords j log work rec r state' log' work'
+  pub unfit : state_in state ≡ None → r ≡ 5
+  pub fit : (j : Judge) → state_in state ≡ Some j → PushedWords j log work rec r state' log' work'
   pub untouched : (r ≡ 0 → ⊥) → (state' ≡ state) × (log' ≡ log) × (work' ≡ work)
 
 -- a report: 5 where the state is none, or its capacity and count are no judge's; then 8 where the list has fewer words than a
 -- report; else the report's words at the front of the list. Refused, the list is as it was
 pub record ReportsWords (state : List ℕ) (k : ℕ) (out : List ℕ) (r : ℕ) (out' : List ℕ) : Type 0 where
-  pub unfit : state_in state ≡ none → r ≡ 5
-  pub refused : (j : Judge) → state_in state ≡ some j → fits_by j.capacity j.count ≡ false → r ≡ 5
-  pub short : (j : Judge) → state_in state ≡ some j → fits_by j.capacity j.count ≡ true → length out < report_size → r ≡ 8
+  pub unfit : state_in state ≡ None → r ≡ 5
+  pub refused : (j : Judge) → state_in state ≡ Some j → fits_by j.capacity j.count ≡ false → r ≡ 5
+  pub short : (j : Judge) → state_in state ≡ Some j → fits_by j.capacity j.count ≡ true → length out < report_size → r ≡ 8
   pub untouched : (r ≡ 0 → ⊥) → out' ≡ out
-  pub given : (j : Judge) → state_in state ≡ some j → fits_by j.capacity j.count ≡ true → report_size ≤ length out
+  pub given : (j : Judge) → state_in state ≡ Some j → fits_by j.capacity j.count ≡ true → report_size ≤ length out
       → (r ≡ 0) × (out' ≡ report_words (report_no j.reports k) ++ drop report_size out)
 
 -- a whole trace's words: the records taken, the refused record's number (0 for none), then the rows of the reports

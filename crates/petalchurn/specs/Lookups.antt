@@ -1,6 +1,5 @@
 -- What the look-ups promise: a refusal's number and a value, 0 where the call is refused.
-use Rattle.std.specs.Prelude.{◌≡◌, true, false, cond, List, ◌++◌, ◌⊎◌, ℕ, length, drop, eqb}
-use Rattle.std.proofs.Math.Option.{none, some}
+use Rattle.std.specs.Prelude.{◌≡◌, true, false, cond, List, ◌++◌, ◌⊎◌, ℕ, length, drop, eqb, None, Some}
 use Rattle.rules.specs.History.{History}
 use Rattle.history.specs.Logs.{hist}
 use Rattle.ids_unique.specs.Answers.{too_short}
@@ -25,10 +24,10 @@ pub record AnswersWords (q : Question) (h : History) (out out' : List ℕ) (r : 
 -- question writes no list, whatever the work area holds. Refused, it leaves the list as it was; and where the columns are those of
 -- the log's records, the answer is theirs
 pub record LooksWords (q : Question) (state log work out out' : List ℕ) (r : Answer) : Type 0 where
-  pub unfit : state_in state ≡ none → r ≡ answer_of 5 0
-  pub refused : (j : Judge) → state_in state ≡ some j → lends j log work ≡ false → r ≡ answer_of 5 0
-  pub lent : (j : Judge) → state_in state ≡ some j → lends j log work ≡ true → (r.refusal ≡ 0) ⊎ (r ≡ answer_of 8 0)
-  pub bare : (j : Judge) → state_in state ≡ some j → lends j log work ≡ true → writes q ≡ false → (r.refusal ≡ 0) × (out' ≡ out)
+  pub unfit : state_in state ≡ None → r ≡ answer_of 5 0
+  pub refused : (j : Judge) → state_in state ≡ Some j → lends j log work ≡ false → r ≡ answer_of 5 0
+  pub lent : (j : Judge) → state_in state ≡ Some j → lends j log work ≡ true → (r.refusal ≡ 0) ⊎ (r ≡ answer_of 8 0)
+  pub bare : (j : Judge) → state_in state ≡ Some j → lends j log work ≡ true → writes q ≡ false → (r.refusal ≡ 0) × (out' ≡ out)
   pub untouched : (r.refusal ≡ 0 → ⊥) → out' ≡ out
-  pub answered : (j : Judge) → state_in state ≡ some j → lends j log work ≡ true → Indexed j.capacity (hist log j.count) work
+  pub answered : (j : Judge) → state_in state ≡ Some j → lends j log work ≡ true → Indexed j.capacity (hist log j.count) work
       → AnswersWords q (hist log j.count) out out' r

@@ -1,6 +1,5 @@
 -- What the calls promise that preview a record and commit it by its ticket.
-use Rattle.std.specs.Prelude.{◌≡◌, Bool, true, false, cond, ◌&&◌, List, ◌++◌, ℕ, length, drop, replicate, leb}
-use Rattle.std.proofs.Math.Option.{Option, none, some}
+use Rattle.std.specs.Prelude.{◌≡◌, Bool, true, false, cond, ◌&&◌, List, ◌++◌, ℕ, length, drop, replicate, leb, Option, None, Some}
 use Rattle.rules.specs.declared.Report.{Report}
 use Rattle.rules.specs.Reports.{passed}
 use Rattle.rules.specs.Checks.{check_count}
@@ -21,7 +20,7 @@ abbrev pub bytes_of_ticket : Ticket → List ℕ
 bytes_of_ticket k = ticket_bytes k.count k.rec
 
 abbrev pub ticket_in : List ℕ → Option Ticket
-ticket_in bytes = cond (has_count bytes) (some (ticket_of (count_in bytes) (record_in bytes))) none
+ticket_in bytes = cond (has_count bytes) (Some (ticket_of (count_in bytes) (record_in bytes))) None
 
 -- ---- a preview
 
@@ -34,7 +33,7 @@ pub record RowsIn (list : List ℕ) (shown : List Report) (list' : List ℕ) : T
 pub record ShowsWords (state log work rec reports : List ℕ) (r : ℕ) (reports' : List ℕ) : Type 0 where
   pub shown : List Report
   pub rows : RowsIn reports shown reports'
-  pub shows : (j : Judge) → state_in state ≡ some j → Previews (state_of j log work) rec r shown (ticket_for (state_of j log work) rec)
+  pub shows : (j : Judge) → state_in state ≡ Some j → Previews (state_of j log work) rec r shown (ticket_for (state_of j log work) rec)
 
 -- both lists have room for what is shown
 abbrev pub roomy : List ℕ → List ℕ → Bool
@@ -56,9 +55,9 @@ pub record PreviewedWords (j : Judge) (log work rec reports ticket : List ℕ) (
 -- zeros; else what a preview of its judge shows
 pub record PreviewsWords (state log work rec reports ticket : List ℕ) (r : ℕ) (reports' ticket' : List ℕ) : Type 0 where
   pub short : roomy reports ticket ≡ false → (r ≡ 8) × (reports' ≡ reports) × (ticket' ≡ ticket)
-  pub unfit : roomy reports ticket ≡ true → state_in state ≡ none
+  pub unfit : roomy reports ticket ≡ true → state_in state ≡ None
       → (r ≡ 5) × AnswerIn reports ticket (replicate check_count passed) no_ticket reports' ticket'
-  pub fit : roomy reports ticket ≡ true → (j : Judge) → state_in state ≡ some j → PreviewedWords j log work rec reports ticket r reports' ticket'
+  pub fit : roomy reports ticket ≡ true → (j : Judge) → state_in state ≡ Some j → PreviewedWords j log work rec reports ticket r reports' ticket'
 
 -- ---- a commit
 
@@ -72,7 +71,7 @@ pub record CommittedWords (j : Judge) (log work : List ℕ) (k : Ticket) (r : �
 -- a commit: 5 where the state is none; a list that is no ticket draws 10, after 5; else what a commit into the judge gives. Refused,
 -- whatever the words, everything is as it stood
 pub record CommitsWords (state log work ticket : List ℕ) (r : ℕ) (state' log' work' : List ℕ) : Type 0 where
-  pub unfit : state_in state ≡ none → r ≡ 5
-  pub short : (j : Judge) → state_in state ≡ some j → ticket_in ticket ≡ none → r ≡ cond (lends j log work) 10 5
-  pub fit : (j : Judge) → state_in state ≡ some j → (k : Ticket) → ticket_in ticket ≡ some k → CommittedWords j log work k r state' log' work'
+  pub unfit : state_in state ≡ None → r ≡ 5
+  pub short : (j : Judge) → state_in state ≡ Some j → ticket_in ticket ≡ None → r ≡ cond (lends j log work) 10 5
+  pub fit : (j : Judge) → state_in state ≡ Some j → (k : Ticket) → ticket_in ticket ≡ Some k → CommittedWords j log work k r state' log' work'
   pub untouched : (r ≡ 0 → ⊥) → (state' ≡ state) × (log' ≡ log) × (work' ≡ work)

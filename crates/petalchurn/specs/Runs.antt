@@ -1,6 +1,5 @@
 -- A host's run, an opening and then calls of the library, and what is claimed of it; and what is claimed of a whole trace.
-use Rattle.std.specs.Prelude.{◌≡◌, true, cond, List, [], ◌∷◌, ◌++◌, ℕ, suc, ◌+◌, ◌≤◌, ◌<◌, length, get_or, drop, eqb}
-use Rattle.std.proofs.Math.Option.{Option, none as missing, some}
+use Rattle.std.specs.Prelude.{◌≡◌, true, cond, List, [], ◌∷◌, ◌++◌, ℕ, suc, ◌+◌, ◌≤◌, ◌<◌, length, get_or, drop, eqb, Option, None as missing, Some}
 use Rattle.rules.specs.declared.Opening.{Opening}
 use Rattle.rules.specs.History.{History}
 use Rattle.rules.specs.Reports.{passed}
@@ -46,7 +45,7 @@ pub data HostCall : Type 0 where
 -- the judge's calls that they are: a list too short for a count is no ticket, and its commit no call
 abbrev pub commit_of : Option Ticket → List Call → List Call
 commit_of missing cs = cs
-commit_of (some k) cs = Judge-calls.commit k ∷ cs
+commit_of (Some k) cs = Judge-calls.commit k ∷ cs
 
 unfoldable pub calls_of : List HostCall → List Call
 calls_of [] = []
@@ -76,7 +75,7 @@ erased_calls (preview bytes ∷ cs) = erased_calls cs
 -- what the table gives a commit after the records of h: 10 where there is no ticket
 abbrev pub commit_after : ℕ → History → Option Ticket → ℕ
 commit_after c h missing = 10
-commit_after c h (some k) = call_refusal c h (Judge-calls.commit k)
+commit_after c h (Some k) = call_refusal c h (Judge-calls.commit k)
 
 -- what a preview returns and writes after the records of h: the table's refusal; the reports of the records that a push would leave; and
 -- the ticket of this record or of zeros
@@ -90,7 +89,7 @@ pub record LibraryShown (o : Opening) (c : ℕ) (h : History) (rec reports ticke
 -- reports is given, in its words, and is that of the rules; and so is the answer to every question, none refused by 5, and by 8 only
 -- where the list is too short for it
 pub record LibraryDemands (o : Opening) (c : ℕ) (h : History) (z : Buffers) : Type 0 where
-  pub state : state_in z.state ≡ some (judge_in z.state)
+  pub state : state_in z.state ≡ Some (judge_in z.state)
   pub demand2 : Demand2 o h (state_at z)
   pub demand3 : Demand3 Indexed o h (state_at z)
   pub pushed : (bytes : List ℕ) (r : ℕ) (state' log' work' : List ℕ) → PushesWords z.state z.log z.work bytes r state' log' work'

@@ -1,6 +1,5 @@
 -- What the call promises that enters a judge into a tally, and a campaign of such calls.
-use Rattle.std.specs.Prelude.{◌≡◌, true, cond, List, [], ◌∷◌, ℕ, ◌<◌, length, eqb}
-use Rattle.std.proofs.Math.Option.{Option, none as missing, some}
+use Rattle.std.specs.Prelude.{◌≡◌, true, cond, List, [], ◌∷◌, ℕ, ◌<◌, length, eqb, Option, None as missing, Some}
 use Rattle.rules.specs.declared.Opening.{Opening}
 use Rattle.rules.specs.History.{History}
 use Rattle.rules.specs.Checks.{check_count, check_at, HasBy, case_at}
@@ -12,11 +11,11 @@ use Rattle.state_words.specs.StateWords.{judge_in, state_in}
 -- the number that an entry of a state's words returns, 5 where they are no judge's; and every byte of the tally after it
 abbrev pub words_refusal : Option Judge → List ℕ → ℕ
 words_refusal missing bytes = 5
-words_refusal (some j) bytes = entry_refusal bytes j
+words_refusal (Some j) bytes = entry_refusal bytes j
 
 abbrev pub words_left : Option Judge → List ℕ → List ℕ
 words_left missing bytes = bytes
-words_left (some j) bytes = left_by bytes j
+words_left (Some j) bytes = left_by bytes j
 
 pub record TalliesWords (state bytes : List ℕ) (r : ℕ) (bytes' : List ℕ) : Type 0 where
   pub refusal : r ≡ words_refusal (state_in state) bytes

@@ -1,7 +1,8 @@
 -- Tests and options: what a conjunction, a disjunction and a contradiction tell. The files of laws of every crate share these.
 use mathlib.Core.Path.{◌≡◌, refl, sym, ◌∙◌}
 use mathlib.Core.Bool.{Bool, true, false, true≢false, ◌&&◌, ◌||◌}
-use mathlib.Core.Option.{none, some, none-ne-some}
+use Rattle.std.proofs.lemmas.Option.{none-some}
+use Rattle.std.specs.Prelude.{None, Some}
 use mathlib.Core.Logic.{◌⊎◌, inl, inr, ⊎_elim, ◌↔◌}
 
 pub decide : (b : Bool) → (b ≡ true) ⊎ (b ≡ false)
@@ -51,5 +52,5 @@ absorbs false false i = refl
 pub means : {A : Type 0} {r b : Bool} → r ≡ b → ((b ≡ true) ↔ A) → (r ≡ b) × ((r ≡ true) ↔ A)
 means e m = (e, (λ t. m.0 (sym e ∙ t), λ a. e ∙ m.1 a))
 
-pub none_some : {A B : Type 0} {a : A} → none ≡ some a → B
-none_some {a = a} e = absurd (none-ne-some a e)
+pub none_some : {A B : Type 0} {a : A} → None ≡ Some a → B
+none_some {a = a} e = absurd (none-some a e)

@@ -2,7 +2,7 @@
 use mathlib.Core.Path.{◌≡◌, refl, sym, ap, ◌∙◌}
 use mathlib.Core.Bool.{Bool, true, false, not, ◌&&◌, and-false}
 use mathlib.Core.List.{List, [], ◌∷◌}
-use mathlib.Core.Option.{Option, none, some}
+use Rattle.std.specs.Prelude.{Option, None, Some}
 use Prim.Native.Nat.{ℕ, ◌-◌, ◌≤◌, ◌<◌}
 use native.Mathlib.Omega.{arith}
 use lib.Dec.{eqb, ltb}
@@ -32,7 +32,7 @@ use Rattle.rules.proofs.Half as half
 
 -- ---- a debt's fault
 
-module _ (log : List ℕ) {k : ℕ} (s : Registered) (e : split_at log k ≡ some s) where
+module _ (log : List ℕ) {k : ℕ} (s : Registered) (e : split_at log k ≡ Some s) where
   pub debt_none : {A : Type 0} → k ≡ 0 → A
   debt_none z = none_some (rw (eq-eqb k 0 z) at e)
 
@@ -40,7 +40,7 @@ module _ (log : List ℕ) {k : ℕ} (s : Registered) (e : split_at log k ≡ som
   pub debt_fault : {kind node right p i : ℕ} {c : Case} {y : TraceRecord} → (k ≡ 0 → ⊥) → y ≡ record_at log (k - 1) → p ≡ parent_by y → i ≡ y.b
       → c ≡ fault kind (node ∷ p ∷ i ∷ right ∷ []) → c ≡ fault kind (node ∷ s.parent ∷ s.index ∷ right ∷ [])
   debt_fault {kind} {node} {right} {p} {i} z ey ep ei ec =
-      let r : registers (record_at log (k - 1)) (hist log (k - 1)) ≡ some s = rw (ne_eqb k 0 z) at e in
+      let r : registers (record_at log (k - 1)) (hist log (k - 1)) ≡ Some s = rw (ne_eqb k 0 z) at e in
       let q = split_is log (record_at log (k - 1)) (k - 1) s r in
       let u : p ≡ s.parent = ep ∙ ap parent_by ey ∙ ap (λ (t : Registered). t.parent) q in
       let v : i ≡ s.index = ei ∙ ap (λ (y : TraceRecord). y.b) ey ∙ ap (λ (t : Registered). t.index) q in
@@ -68,14 +68,14 @@ lowest_free e f g = rw (e, f, g)
 
 pub record Taken (log : List ℕ) (n k : ℕ) (x : TraceRecord) : Type 0 where
   pub split : Registered
-  pub is : registers (record_at log (k - 1)) (hist log (k - 1)) ≡ some split
+  pub is : registers (record_at log (k - 1)) (hist log (k - 1)) ≡ Some split
   pub mem : Mem split (registered (hist log n))
   pub its : is_split x.a x.b split ≡ true
 
 module _ (log : List ℕ) (n : ℕ) (x : TraceRecord) {k : ℕ} (ek : k ≡ split_number x.a x.b (hist log n)) (some_k : 0 < k) where
   held_split : (o : Option Registered) → registers (record_at log (k - 1)) (hist log (k - 1)) ≡ o → holds (is_split x.a x.b) o ≡ true → Taken log n k x
-  held_split none e h = never h refl
-  held_split (some s) e h =
+  held_split None e h = never h refl
+  held_split (Some s) e h =
       let l : k ≤ n = rw ek (number_bound (registers_as x.a x.b) log n) in
       record { split = s; is = e; mem = place_registered log n (k - 1) (omega arith) e; its = h }
 

@@ -4,7 +4,8 @@ use mathlib.Core.Path.{◌≡◌, refl, sym, ap, ◌∙◌}
 use mathlib.Core.Bool.{Bool, true, false, cond, not, ◌&&◌, ◌||◌, and-true, and-false}
 use mathlib.Core.List.{List, ◌∷◌}
 use mathlib.Core.Logic.{inl, inr}
-use mathlib.Core.Option.{Option, none, some, some_inj}
+use Rattle.std.proofs.lemmas.Option.{same_Some}
+use Rattle.std.specs.Prelude.{Option, None, Some}
 use Prim.Native.Nat.{ℕ, zero, suc, ◌-◌, ◌≤◌, ◌<◌}
 use native.Mathlib.Omega.{arith}
 use native.Mathlib.Decide.{ℕ_discrete, dec_lt}
@@ -35,7 +36,7 @@ use Rattle.splits.proofs.Registered.{split_is, some_split}
 
 pub record Unowed (log : List ℕ) (n node right i : ℕ) : Type 0 where
   pub here : 0 < i → is_registering (record_at log (i - 1)) (hist log (i - 1)) ≡ true
-  pub done : (t : ℕ) (s : Registered) → i ≤ t → t < n → registers (record_at log t) (hist log t) ≡ some s → s.right ≡ right
+  pub done : (t : ℕ) (s : Registered) → i ≤ t → t < n → registers (record_at log t) (hist log t) ≡ Some s → s.right ≡ right
       → owes_split log n node t (cancel_number node right (hist log n)) ≡ false
 
 module _ (log : List ℕ) (n node right : ℕ) where
@@ -47,7 +48,7 @@ module _ (log : List ℕ) (n node right : ℕ) where
 
   module _ {i m v : ℕ} (o : 0 < i) (l : i ≤ n) (w : Unowed log n node right i) (em : m ≡ named_number (record_at log (i - 1)) (hist log (i - 1)))
       (er : v ≡ right_by log (record_at log (i - 1)) m) where
-    right_is : (s : Registered) → registers (record_at log (i - 1)) (hist log (i - 1)) ≡ some s → v ≡ s.right
+    right_is : (s : Registered) → registers (record_at log (i - 1)) (hist log (i - 1)) ≡ Some s → v ≡ s.right
     right_is s r = er ∙ ap (right_by log (record_at log (i - 1))) em ∙ ap (λ (z : Registered). z.right) (split_is log (record_at log (i - 1)) (i - 1) s r)
 
     pub owed_here : {t : Bool} {c : ℕ} → v ≡ right → c ≡ cancel_number node right (hist log n) → t ≡ owes_split log n node (i - 1) c → t ≡ true
@@ -66,7 +67,7 @@ module _ (log : List ℕ) (n node right : ℕ) where
       done = λ t u a b r h.
           elim (ℕ_discrete t (i - 1)) [
             | yes z ↦
-                let g : registers (record_at log (i - 1)) (hist log (i - 1)) ≡ some u = ap (λ (k : ℕ). registers (record_at log k) (hist log k)) (sym z) ∙ r in
+                let g : registers (record_at log (i - 1)) (hist log (i - 1)) ≡ Some u = ap (λ (k : ℕ). registers (record_at log k) (hist log k)) (sym z) ∙ r in
                 ap (λ (k : ℕ). owes_split log n node k (cancel_number node right (hist log n))) z ∙ not_here (right_is u g ∙ h)
             | no z ↦
                 elim (dec_lt t (i - 1)) [
@@ -147,7 +148,7 @@ module _ (node range : ℕ) (log : List ℕ) (n : ℕ) {k f : ℕ} (ek : k ≡ r
 
 -- ---- what is owed with the registering
 
-module _ (x : TraceRecord) (h : History) (node : ℕ) (s : Registered) (r : registers x h ≡ some s) where
+module _ (x : TraceRecord) (h : History) (node : ℕ) (s : Registered) (r : registers x h ≡ Some s) where
   other_kind : (k : ℕ) → (1 ≡ k → ⊥) → (2 ≡ k → ⊥) → is_kind k x ≡ false
   other_kind k p q = or_elim (is_kind 1 x) (is_kind 2 x) (registers_kind x h r) (kind_apart 1 k x p) (kind_apart 2 k x q)
 
@@ -172,17 +173,17 @@ module _ (x : TraceRecord) (h : History) (node : ℕ) (s : Registered) (r : regi
 
     only_voter : Arisen node s.right x h → is_voter node h s ≡ true
     only_voter (own u its m e) = absurd (not_coming u e)
-    only_voter (early u its g v e) = ap (is_voter node h) (some_inj.0 (sym r ∙ g)) ∙ v
+    only_voter (early u its g v e) = ap (is_voter node h) (same_Some _ _ (sym r ∙ g)) ∙ v
     only_voter (itself u its g v b k m l) = never m (ap not is)
 
     by_debt : (v : Bool) (o : Option Registered) → is_voter node h s ≡ v → debt_at node s.right x h ≡ o
         → is_some (owes node s.right (x ∷ h)) ≡ v || is_some (owes node s.right h)
-    by_debt true none e d =
+    by_debt true None e d =
         let q = debt_registering node s.right x h s refl r e (or_right (has_applied node s.parent s.index h) _ reach) in
         never q (ap is_some d)
-    by_debt true (some t) e d = ap is_some (owes_arises node s.right x h t goes_on d)
-    by_debt false none e d = ap is_some (owes_kept node s.right x h goes_on d)
-    by_debt false (some t) e d = never (only_voter (arisen node s.right x h (ap is_some d))) e
+    by_debt true (Some t) e d = ap is_some (owes_arises node s.right x h t goes_on d)
+    by_debt false None e d = ap is_some (owes_kept node s.right x h goes_on d)
+    by_debt false (Some t) e d = never (only_voter (arisen node s.right x h (ap is_some d))) e
 
     -- this registering makes it owed where the server is a voter; else what was owed before
     pub owes_registering : is_some (owes node s.right (x ∷ h)) ≡ is_voter node h s || is_some (owes node s.right h)
@@ -203,7 +204,7 @@ module _ (x : TraceRecord) (h : History) (node : ℕ) (s : Registered) (r : regi
   lacks_unreached e f = rw (e, f)
 
 -- a voter of the record is one of the split that it registers
-pub voter_of : (log : List ℕ) (x : TraceRecord) (n node : ℕ) (s : Registered) {v : Bool} {k : ℕ} → registers x (hist log n) ≡ some s
+pub voter_of : (log : List ℕ) (x : TraceRecord) (n node : ℕ) (s : Registered) {v : Bool} {k : ℕ} → registers x (hist log n) ≡ Some s
     → k ≡ (server_of node (hist log n)).0
     → v ≡ any_of (λ u. eqb u k) x.voters → is_voter node (hist log n) s ≡ v
 voter_of log x n node s {v} {k} r e f =

@@ -2,7 +2,7 @@
 use mathlib.Core.Path.{◌≡◌, refl, sym, ap, ◌∙◌}
 use mathlib.Core.Bool.{Bool, true, not, ◌&&◌}
 use mathlib.Core.List.{List}
-use mathlib.Core.Option.{Option, none}
+use Rattle.std.specs.Prelude.{Option, None}
 use Prim.Native.Nat.{ℕ, ◌+◌, ◌-◌, ◌≤◌, ◌<◌}
 use native.Mathlib.Omega.{arith}
 use native.Mathlib.Decide.{ℕ_discrete, dec_lt}
@@ -38,7 +38,7 @@ pub record Lowering (f : Tells ℕ) (b : ℕ) (log : List ℕ) (n : ℕ) (P : �
 
 module _ (f : Tells ℕ) (b : ℕ) (log : List ℕ) (n : ℕ) (P : ℕ → Bool) {heads links cap : ℕ} {work : List ℕ}
     (c : Chained f heads links cap (hist log n) work) (taken : n ≤ cap) where
-  pub lower_first : {at i d : ℕ} → d ≡ b → d < cap → at ≡ heads + d → i ≡ clamp (get_or work at 0) n → Lowering f b log n P i none
+  pub lower_first : {at i d : ℕ} → d ≡ b → d < cap → at ≡ heads + d → i ≡ clamp (get_or work at 0) n → Lowering f b log n P i None
   lower_first {at} {i} {d} ed l a e =
       let w : get_or work at 0 ≡ latest_in f (hist log n) b = ap (λ (k : ℕ). get_or work k 0) (a ∙ ap (λ (k : ℕ). heads + k) ed) ∙ c.tops.word b (rw ed at l) in
       let q : i ≡ latest_in f (hist log n) b = e ∙ clamped (get_or work at 0) (latest_in f (hist log n) b) n w (latest_bound f b log n) in

@@ -1,7 +1,7 @@
 -- Laws of half at a registering: nothing is registered, no node lacks the right range, or the lowest that does.
 use mathlib.Core.Path.{◌≡◌, ◌∙◌}
 use mathlib.Core.List.{List, [], ◌∷◌}
-use mathlib.Core.Option.{none, some}
+use Rattle.std.specs.Prelude.{None, Some}
 use Prim.Native.Nat.{ℕ}
 use borrow.Author.Tests.{eq-eqb}
 use Rattle.record.specs.Records.{TraceRecord}
@@ -22,12 +22,12 @@ module _ (log : List ℕ) (n : ℕ) (x : TraceRecord) {m : ℕ} (e : m ≡ named
 
   module _ (some_named : m ≡ 0 → ⊥) where
     pub found_fault : {p i r : ℕ} {c : Case} (node : ℕ) → p ≡ parent_by x → i ≡ x.b → r ≡ right_by log x m
-        → some node ≡ lowest_of (λ k. k) (lacks (split_with log x m) x (hist log n)) (nodes_of (hist log n)) → c ≡ fault 2 (node ∷ p ∷ i ∷ r ∷ [])
+        → Some node ≡ lowest_of (λ k. k) (lacks (split_with log x m) x (hist log n)) (nodes_of (hist log n)) → c ≡ fault 2 (node ∷ p ∷ i ∷ r ∷ [])
         → c ≡ case_of (registering_fault x (hist log n)) (registers x (hist log n))
     unfolding registering_fault
     found_fault node ep ei er el ec = ec ∙ rw (named_split log n x e some_named, ← el, ep, ei, er)
 
-    pub none_clear : none ≡ lowest_of (λ k. k) (lacks (split_with log x m) x (hist log n)) (nodes_of (hist log n))
+    pub none_clear : None ≡ lowest_of (λ k. k) (lacks (split_with log x m) x (hist log n)) (nodes_of (hist log n))
         → Clear ≡ case_of (registering_fault x (hist log n)) (registers x (hist log n))
     unfolding registering_fault
     none_clear el = rw (named_split log n x e some_named, ← el)

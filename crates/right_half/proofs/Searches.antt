@@ -2,7 +2,8 @@
 use mathlib.Core.Path.{◌≡◌, refl, sym, ap, ◌∙◌}
 use mathlib.Core.Bool.{Bool, true, false, cond, not, and-false}
 use mathlib.Core.List.{List, map}
-use mathlib.Core.Option.{Option, none, some, some_inj}
+use Rattle.std.proofs.lemmas.Option.{same_Some}
+use Rattle.std.specs.Prelude.{Option, None, Some}
 use Prim.Native.Nat.{ℕ, ◌-◌, ◌≤◌, ◌<◌}
 use native.Mathlib.Omega.{arith}
 use native.Mathlib.Decide.{ℕ_discrete, dec_lt}
@@ -40,13 +41,13 @@ module _ (log : List ℕ) (n node t right : ℕ) where
 -- ---- one more: not below the lowest so far, lacking, or not
 
 pub lowered_above : (t : Bool) (right : ℕ) (best : Option ℕ) → is_below right best ≡ false → best ≡ cond t (lower (λ n. n) right best) best
-lowered_above t right none e = never refl e
-lowered_above true right (some b) e = rw e
-lowered_above false right (some b) e = refl
+lowered_above t right None e = never refl e
+lowered_above true right (Some b) e = rw e
+lowered_above false right (Some b) e = refl
 
-pub lowered_new : (right : ℕ) (best : Option ℕ) {t : Bool} → is_below right best ≡ true → t ≡ true → some right ≡ cond t (lower (λ n. n) right best) best
-lowered_new right none e f = rw f
-lowered_new right (some b) e f = rw (f, e)
+pub lowered_new : (right : ℕ) (best : Option ℕ) {t : Bool} → is_below right best ≡ true → t ≡ true → Some right ≡ cond t (lower (λ n. n) right best) best
+lowered_new right None e f = rw f
+lowered_new right (Some b) e f = rw (f, e)
 
 pub lowered_not : (right : ℕ) (best : Option ℕ) {t : Bool} → t ≡ false → best ≡ cond t (lower (λ n. n) right best) best
 lowered_not right best f = rw f
@@ -56,11 +57,11 @@ lowered_not right best f = rw f
 pub record Searching (log : List ℕ) (n node i : ℕ) (best : Option ℕ) : Type 0 where
   pub here : 0 < i → is_registering (record_at log (i - 1)) (hist log (i - 1)) ≡ true
   pub sound : Sound (is_missing node (hist log n)) best
-  pub done : (t : ℕ) (s : Registered) → i ≤ t → t < n → registers (record_at log t) (hist log t) ≡ some s → lacks_split log n node t s.right ≡ true
+  pub done : (t : ℕ) (s : Registered) → i ≤ t → t < n → registers (record_at log t) (hist log t) ≡ Some s → lacks_split log n node t s.right ≡ true
       → at_most best s.right ≡ true
 
 module _ (log : List ℕ) (n node : ℕ) where
-  lacks_missing : (t right : ℕ) (s : Registered) → t < n → registers (record_at log t) (hist log t) ≡ some s → s.right ≡ right
+  lacks_missing : (t right : ℕ) (s : Registered) → t < n → registers (record_at log t) (hist log t) ≡ Some s → s.right ≡ right
       → lacks_split log n node t right ≡ true → is_missing node (hist log n) right ≡ true
   unfolding lacks_split
   lacks_missing t right s l r e h =
@@ -69,7 +70,7 @@ module _ (log : List ℕ) (n node : ℕ) where
       ∙ split_owes log n node s t l r refl (ap (λ (k : ℕ). owes_split log n node t (cancel_number node k (hist log n))) e ∙ o))
       (and_left (not (has_hold node right (hist log n))) _ h)
 
-  pub search_first : {i : ℕ} → i ≡ latest_registering (hist log n) → Searching log n node i none
+  pub search_first : {i : ℕ} → i ≡ latest_registering (hist log n) → Searching log n node i None
   search_first {i} e = record {
     here = λ l. rw e (number_is is_registering log n (rw e at l));
     sound = none_sound (is_missing node (hist log n));
@@ -91,8 +92,8 @@ module _ (log : List ℕ) (n node : ℕ) where
         done = λ t u a b r h.
             elim (ℕ_discrete t (i - 1)) [
               | yes z ↦
-                  let g : registers y (hist log (i - 1)) ≡ some u = ap (λ (k : ℕ). registers (record_at log k) (hist log k)) (sym z) ∙ r in
-                  let f : s ≡ u = some_inj.0 (sym q.1 ∙ g) in
+                  let g : registers y (hist log (i - 1)) ≡ Some u = ap (λ (k : ℕ). registers (record_at log k) (hist log k)) (sym z) ∙ r in
+                  let f : s ≡ u = same_Some _ _ (sym q.1 ∙ g) in
                   let d : u.right ≡ right = ap (λ (v : Registered). v.right) (sym f) ∙ e in
                   let h' : lacks_split log n node (i - 1) right ≡ true =
                   ap (λ (k : ℕ). lacks_split log n node k right) (sym z) ∙ ap (lacks_split log n node t) (sym d) ∙ h in
@@ -106,7 +107,7 @@ module _ (log : List ℕ) (n node : ℕ) where
       }
     where
       by_test : (t : Bool) → lacks_split log n node (i - 1) right ≡ t → (s : Registered) → s.right ≡ right
-          → registers (record_at log (i - 1)) (hist log (i - 1)) ≡ some s
+          → registers (record_at log (i - 1)) (hist log (i - 1)) ≡ Some s
           → Sound (is_missing node (hist log n)) (cond t (lower (λ k. k) right best) best)
       by_test true h s e r = sound_lower (is_missing node (hist log n)) right true best (lacks_missing (i - 1) right s (omega arith) r e h) w.sound
       by_test false h s e r = w.sound

@@ -1,6 +1,5 @@
 -- What is missing by one split, and the lowest so far.
-use Rattle.std.specs.Prelude.{Bool, cond, not, ◌&&◌, List, ℕ}
-use Rattle.std.proofs.Math.Option.{Option, none, some}
+use Rattle.std.specs.Prelude.{Bool, cond, not, ◌&&◌, List, ℕ, Option, None, Some}
 use Rattle.record.specs.declared.named.Node.{Node}
 use Rattle.record.specs.declared.named.Node.TheVariants.{Marked, Missing}
 use Rattle.rules.specs.declared.Found.{Found}
@@ -17,8 +16,8 @@ lacks_split log n node t right = not (has_hold node right (hist log n)) && owes_
 
 -- the number that was found
 abbrev pub found_in : Found → Option ℕ
-found_in (At n) = some n
-found_in Nothing = none
+found_in (At n) = Some n
+found_in Nothing = None
 
 -- the lowest so far, with the node of a record, if it is marked and passes
 abbrev pub lowered_by : (ℕ → Bool) → Node → Option ℕ → Option ℕ

@@ -1,6 +1,5 @@
 // half, at a Took of a registered split, at a RangesRestated and at a registering.
-ghost use Rattle.std.specs.Prelude.{◌≡◌, true, not, ◌&&◌, [], ◌∷◌, map, ◌≤◌, ◌<◌, length, eqb, ltb};
-ghost use Rattle.std.proofs.Math.Option.{some};
+ghost use Rattle.std.specs.Prelude.{◌≡◌, true, not, ◌&&◌, [], ◌∷◌, map, ◌≤◌, ◌<◌, length, eqb, ltb, Some};
 ghost use Rattle.record.specs.declared.named.Node.TheVariants.{Marked};
 ghost use Rattle.record.specs.declared.named.ApplyEffect.TheVariants.{Took};
 ghost use Rattle.record.specs.Records.{decode};
@@ -54,7 +53,7 @@ fn missing_case(
     right: u64,
 ) -> Case
     requires { Bounds log.now work.now count cap }
-    ensures { Known cap (hist log.now count) work.now → (s : Registered) → owes node.0 right (hist log.now count) ≡ some s → result ≡ fault kind (node.0 ∷ s.parent ∷ s.index ∷ right ∷ []) }
+    ensures { Known cap (hist log.now count) work.now → (s : Registered) → owes node.0 right (hist log.now count) ≡ Some s → result ≡ fault kind (node.0 ∷ s.parent ∷ s.index ∷ right ∷ []) }
 {
     let k = debt_of(log, work, count, cap, node, right);
     if k == 0 {

@@ -1,7 +1,6 @@
 // The nodes that a registering finds without the right range: restated, their recorded index reaching the split, owing the
 // right range, and without it at their latest RangesRestated.
-ghost use Rattle.std.specs.Prelude.{◌≡◌, true, false, ◌≤◌, ◌<◌, length};
-ghost use Rattle.std.proofs.Math.Option.{some};
+ghost use Rattle.std.specs.Prelude.{◌≡◌, true, false, ◌≤◌, ◌<◌, length, Some};
 ghost use Rattle.record.specs.Records.{decode};
 ghost use Rattle.rules.specs.History.{is_some, lowest_of};
 ghost use Rattle.rules.specs.RightHalf.{Registered, registers, is_restated, restated_with, owes, lacks, nodes_of};
@@ -84,7 +83,7 @@ pub fn lacks_at(
     right: u64,
 ) -> bool
     requires { Bounds log.now work.now count cap × (length rec.now ≡ 368) }
-    ensures { Known cap (hist log.now count) work.now → (s : Registered) → registers (decode rec.now) (hist log.now count) ≡ some s → parent ≡ s.parent → index ≡ s.index → right ≡ s.right → result ≡ lacks s (decode rec.now) (hist log.now count) node.0 }
+    ensures { Known cap (hist log.now count) work.now → (s : Registered) → registers (decode rec.now) (hist log.now count) ≡ Some s → parent ≡ s.parent → index ≡ s.index → right ≡ s.right → result ≡ lacks s (decode rec.now) (hist log.now count) node.0 }
 {
     let last = latest_of(log, work, count, cap, count, node);
     let restated = restated_by(work, cap, last);
@@ -118,7 +117,7 @@ fn lowered_by(
     best: Found,
 ) -> Found
     requires { Bounds log.now work.now count cap × ((length rec.now ≡ 368) × (length found.now ≡ 368)) }
-    ensures { Known cap (hist log.now count) work.now → (s : Registered) → registers (decode rec.now) (hist log.now count) ≡ some s → parent ≡ s.parent → index ≡ s.index → right ≡ s.right → found_in result ≡ lowered_by (lacks s (decode rec.now) (hist log.now count)) (decode found.now).node (found_in best) }
+    ensures { Known cap (hist log.now count) work.now → (s : Registered) → registers (decode rec.now) (hist log.now count) ≡ Some s → parent ≡ s.parent → index ≡ s.index → right ≡ s.right → found_in result ≡ lowered_by (lacks s (decode rec.now) (hist log.now count)) (decode found.now).node (found_in best) }
 {
     let marked = field::node(found);
     let Node::Marked(node) = marked else {
@@ -145,7 +144,7 @@ pub fn lowest_lacking(
     right: u64,
 ) -> Found
     requires { Bounds log.now work.now count cap × (length rec.now ≡ 368) }
-    ensures { Known cap (hist log.now count) work.now → (s : Registered) → registers (decode rec.now) (hist log.now count) ≡ some s → parent ≡ s.parent → index ≡ s.index → right ≡ s.right → found_in result ≡ lowest_of (λ n. n) (lacks s (decode rec.now) (hist log.now count)) (nodes_of (hist log.now count)) }
+    ensures { Known cap (hist log.now count) work.now → (s : Registered) → registers (decode rec.now) (hist log.now count) ≡ Some s → parent ≡ s.parent → index ≡ s.index → right ≡ s.right → found_in result ≡ lowest_of (λ n. n) (lacks s (decode rec.now) (hist log.now count)) (nodes_of (hist log.now count)) }
 {
     let mut best = Found::Nothing;
     let mut i = recorded_top(work, cap, count, parent);

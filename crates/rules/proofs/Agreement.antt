@@ -3,7 +3,7 @@
 use mathlib.Core.Path.{◌≡◌, refl, ap, ◌∙◌}
 use mathlib.Core.Bool.{Bool, true, false, cond, not, ◌&&◌, ◌||◌}
 use mathlib.Core.List.{List, [], ◌∷◌}
-use mathlib.Core.Option.{none, some}
+use Rattle.std.specs.Prelude.{None, Some}
 use Prim.Native.Nat.{ℕ}
 use lib.Dec.{eqb, ltb, leb}
 use Rattle.record.specs.Records.{TraceRecord}
@@ -27,7 +27,7 @@ touches p s = eqb p.range s.range && (leb p.index s.index || eqb p.held.generati
 
 -- the case of a put p: against the value that stands at its place; where none does, the statements that it touches
 abbrev pub agreement_put : Bool → Entry → History → Case
-agreement_put true p h = put_fault (some p) (standing h)
+agreement_put true p h = put_fault (Some p) (standing h)
 agreement_put false p h = earliest_case (statement_fault (p ∷ standing h)) (those (touches p) (stated h))
 
 abbrev pub agreement_role : Role → TraceRecord → History → Case
@@ -42,7 +42,7 @@ agreement_at x h = agreement_role (role_of x h) x h
 -- ---- one value more
 
 -- a place at which no value stands has nothing to differ from
-none_differs : (p : Entry) (vs : List Entry) → any_of (same_place p) vs ≡ false → put_fault (some p) vs ≡ Clear
+none_differs : (p : Entry) (vs : List Entry) → any_of (same_place p) vs ≡ false → put_fault (Some p) vs ≡ Clear
 unfolding put_fault
 none_differs p vs h = rw (latest_none (same_place p) vs (any_of_none (same_place p) vs h))
 
@@ -127,7 +127,7 @@ agreement_cons : (x : TraceRecord) (h : History) → agreement (x ∷ h) ≡ agr
 unfolding agreement
 agreement_cons x h = rw (puts_cons x h, standing_cons x h, stated_cons x h)
 
-put_none : (vs : List Entry) → put_fault none vs ≡ Clear
+put_none : (vs : List Entry) → put_fault None vs ≡ Clear
 unfolding put_fault
 put_none vs = refl
 
@@ -147,7 +147,7 @@ module _ (h : History) (k : agreement h ≡ Clear) where
 module _ (x : TraceRecord) (h : History) (k : agreement h ≡ Clear) where
   -- a put, by whether a value stands at its place
   agreed_put : (p : Entry) (b : Bool) → any_of (same_place p) (standing h) ≡ b
-      → or_case (or_case (puts_differ h) (put_fault (some p) (standing h)))
+      → or_case (or_case (puts_differ h) (put_fault (Some p) (standing h)))
       (earliest_case (statement_fault (cond b (standing h) (p ∷ standing h))) (stated h))
       ≡ agreement_put b p h
   agreed_put p true e = rw (puts_clear h k, stated_clear h k) (or_clear _)
@@ -176,7 +176,7 @@ agreement_new x h k i role free =
 
 -- a put at a place where a value stands
 module _ (x : TraceRecord) (h : History) (k : agreement h ≡ Clear) (i : ℕ) (role : role_of x h ≡ puts i) where
-  pub agreement_taken : (v : Entry) → latest_of (same_place (entry_at i x h)) (standing h) ≡ some v
+  pub agreement_taken : (v : Entry) → latest_of (same_place (entry_at i x h)) (standing h) ≡ Some v
       → agreement (x ∷ h) ≡ fault_if (not (held_eqb v.held (held_by x))) (fault 1 (x.a ∷ i ∷ []))
   unfolding agreement_at put_fault
   agreement_taken v e =

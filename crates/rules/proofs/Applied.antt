@@ -1,7 +1,7 @@
 -- The one registered split of a parent and an index: what is found of them among the registered splits is that one or nothing.
 use mathlib.Core.Path.{◌≡◌, refl, sym, ap, ◌∙◌}
 use mathlib.Core.Bool.{Bool, true, false, cond, ◌&&◌}
-use mathlib.Core.Option.{Option, none, some}
+use Rattle.std.specs.Prelude.{Option, None, Some}
 use Prim.Native.Nat.{ℕ}
 use lib.Dec.{eqb}
 use borrow.Author.Tests.{eqb-true}
@@ -29,14 +29,14 @@ module _ (h : History) (parent index : ℕ) (s : Registered) (mem : Mem s (regis
     test_is : test s ≡ p s && q s
     test_is = and_three (is_split parent index s) (p s) (q s) at
 
-    one : (o : Option Registered) (t : Bool) → p s && q s ≡ t → Answer (Latest test (registered h)) test (registered h) o → o ≡ cond t (some s) none
-    one none true e a = never (test_is ∙ e) (a s mem)
-    one none false e a = refl
-    one (some u) t e a =
+    one : (o : Option Registered) (t : Bool) → p s && q s ≡ t → Answer (Latest test (registered h)) test (registered h) o → o ≡ cond t (Some s) None
+    one None true e a = never (test_is ∙ e) (a s mem)
+    one None false e a = refl
+    one (Some u) t e a =
         let w = a.place.passes in
         let z : u ≡ s = same u (placed_mem a.place) (and_left (is_split parent index u) _ (and_left (is_split parent index u && p u) _ w)) in
         let v : t ≡ true = sym e ∙ sym test_is ∙ ap test (sym z) ∙ w in
         rw (v, z)
 
-    pub only_split : latest_of test (registered h) ≡ cond (p s && q s) (some s) none
+    pub only_split : latest_of test (registered h) ≡ cond (p s && q s) (Some s) None
     only_split = one (latest_of test (registered h)) (p s && q s) refl (latest_of_right test (registered h))

@@ -3,7 +3,7 @@ use mathlib.Core.Path.{◌≡◌, refl, sym, ap, ◌∙◌}
 use mathlib.Core.Bool.{Bool, true, false, cond, not, ◌&&◌, ◌||◌}
 use mathlib.Core.List.{List, [], ◌∷◌}
 use mathlib.Core.Logic.{◌⊎◌, inl, inr}
-use mathlib.Core.Option.{Option, none, some}
+use Rattle.std.specs.Prelude.{Option, None, Some}
 use Prim.Native.Nat.{ℕ}
 use native.Mathlib.Omega.{arith}
 use lib.Dec.{eqb, leb, ltb}
@@ -26,21 +26,21 @@ pub registered_nil : registered [] ≡ []
 unfolding registered firsts
 registered_nil = refl
 
-add_cases : {A : Type 0} {s : A} (o : Option A) (ss : List A) → Mem s (add_some o ss) → (o ≡ some s) ⊎ Mem s ss
-add_cases none ss m = inr m
-add_cases (some s) ss here = inl refl
-add_cases (some t) ss (there m) = inr m
+add_cases : {A : Type 0} {s : A} (o : Option A) (ss : List A) → Mem s (add_some o ss) → (o ≡ Some s) ⊎ Mem s ss
+add_cases None ss m = inr m
+add_cases (Some s) ss here = inl refl
+add_cases (Some t) ss (there m) = inr m
 
-pub mem_step : (x : TraceRecord) (h : History) {s : Registered} → Mem s (registered (x ∷ h)) → (registers x h ≡ some s) ⊎ Mem s (registered h)
+pub mem_step : (x : TraceRecord) (h : History) {s : Registered} → Mem s (registered (x ∷ h)) → (registers x h ≡ Some s) ⊎ Mem s (registered h)
 mem_step x h m = add_cases (registers x h) (registered h) (rw (registered_step x h) at m)
 
 -- ---- whether anything is found
 
 some_or : {A : Type 0} (a b : Option A) → is_some (or_else a b) ≡ is_some a || is_some b
-some_or none b = refl
-some_or (some x) b = refl
+some_or None b = refl
+some_or (Some x) b = refl
 
-cond_some : {A : Type 0} (b : Bool) (x : A) (o : Option A) (t : Bool) → is_some o ≡ t → is_some (cond b (some x) o) ≡ b || t
+cond_some : {A : Type 0} (b : Bool) (x : A) (o : Option A) (t : Bool) → is_some o ≡ t → is_some (cond b (Some x) o) ≡ b || t
 cond_some true x o t e = refl
 cond_some false x o t e = e
 
@@ -50,10 +50,10 @@ latest_any p [] = refl
 latest_any p (x ∷ xs) = cond_some (p x) x (latest_of p xs) (any_of p xs) (latest_any p xs)
 
 greater_some : {A : Type 0} (number : A → ℕ) (x : A) (o : Option A) → is_some (greater number x o) ≡ true
-greater_some number x none = refl
-greater_some number x (some y) = go (ltb (number y) (number x))
+greater_some number x None = refl
+greater_some number x (Some y) = go (ltb (number y) (number x))
   where
-    go : (b : Bool) → is_some (cond b (some x) (some y)) ≡ true
+    go : (b : Bool) → is_some (cond b (Some x) (Some y)) ≡ true
     go true = refl
     go false = refl
 
@@ -75,19 +75,19 @@ module _ (node right : ℕ) (x : TraceRecord) (h : History) where
   abbrev pub reach_test : Registered → Bool
   reach_test = is_covered node right x h
 
-  own_some : (k m : Bool) → is_some (cond k (latest_of own_test (registered h)) (cond m (greatest_of (λ s. s.index) reach_test (registered (x ∷ h))) none))
+  own_some : (k m : Bool) → is_some (cond k (latest_of own_test (registered h)) (cond m (greatest_of (λ s. s.index) reach_test (registered (x ∷ h))) None))
       ≡ cond k (any_of own_test (registered h)) (m && any_of reach_test (registered (x ∷ h)))
   own_some true m = latest_any own_test (registered h)
   own_some false true = greatest_any (λ s. s.index) reach_test (registered (x ∷ h))
   own_some false false = refl
 
-  by_some : (b : Bool) (o : Option Registered) → is_some (cond b o none) ≡ b && is_some o
+  by_some : (b : Bool) (o : Option Registered) → is_some (cond b o None) ≡ b && is_some o
   by_some true o = refl
   by_some false o = refl
 
   when_some : (p : Registered → Bool) (o : Option Registered) → is_some (given (λ s. when (p s) s) o) ≡ holds p o
-  when_some p none = refl
-  when_some p (some s) = go (p s)
+  when_some p None = refl
+  when_some p (Some s) = go (p s)
     where
       go : (b : Bool) → is_some (when b s) ≡ b
       go true = refl
@@ -119,12 +119,12 @@ module _ (node right : ℕ) (x : TraceRecord) (h : History) where
     right_is = eq-eqb s.right right its
 
     -- applied before or reached ..
-    pub debt_registering : registers x h ≡ some s → is_voter node h s ≡ true → has_applied node s.parent s.index h || reaches node s h ≡ true
+    pub debt_registering : registers x h ≡ Some s → is_voter node h s ≡ true → has_applied node s.parent s.index h || reaches node s h ≡ true
         → is_some (debt_at node right x h) ≡ true
     debt_registering r v e = debt_some ∙ or_right own_part _ (ap (holds (owes_by_registering node right h)) r ∙ both (both right_is v) e)
 
     -- .. or by the record itself
-    pub debt_itself : registers x h ≡ some s → is_voter node h s ≡ true → is_by node x ≡ true → is_kind 2 x ≡ true → not (is_restated node h) ≡ true
+    pub debt_itself : registers x h ≡ Some s → is_voter node h s ≡ true → is_by node x ≡ true → is_kind 2 x ≡ true → not (is_restated node h) ≡ true
         → x.a ≡ s.parent
         → leb s.index x.c ≡ true → is_some (debt_at node right x h) ≡ true
     debt_itself r v b k m a e =

@@ -2,7 +2,7 @@
 use mathlib.Core.Path.{◌≡◌, refl}
 use mathlib.Core.Bool.{Bool, true, false, cond, ◌&&◌, ◌||◌}
 use mathlib.Core.List.{List, [], ◌∷◌}
-use mathlib.Core.Option.{Option, none, some}
+use Rattle.std.specs.Prelude.{Option, None, Some}
 use mathlib.Core.Logic.{⊎_elim}
 use Prim.Native.Nat.{ℕ, ◌≤◌}
 use lib.Dec.{eqb}
@@ -23,27 +23,27 @@ use Rattle.rules.proofs.Best.{Lowest, lowest_of_right}
 
 -- the lowest number that passes, of all numbers; or none does
 abbrev pub LowestOfAll : (ℕ → Bool) → Option ℕ → Type 0
-LowestOfAll p none = (n : ℕ) → p n ≡ false
-LowestOfAll p (some r) = (p r ≡ true) × ((n : ℕ) → p n ≡ true → r ≤ n)
+LowestOfAll p None = (n : ℕ) → p n ≡ false
+LowestOfAll p (Some r) = (p r ≡ true) × ((n : ℕ) → p n ≡ true → r ≤ n)
 
 -- the candidates suffice where every number that passes is one of them
 module _ (p : ℕ → Bool) (ns : List ℕ) (every : (n : ℕ) → p n ≡ true → Mem n ns) where
   of_all : (o : Option ℕ) → Answer (Lowest (λ n. n) p ns) p ns o → LowestOfAll p o
-  of_all none h = λ n. ⊎_elim (λ e. never e (h n (every n e))) (λ e. e) (decide (p n))
-  of_all (some r) h = (h.place.passes, λ n e. h.most n (every n e) e)
+  of_all None h = λ n. ⊎_elim (λ e. never e (h n (every n e))) (λ e. e) (decide (p n))
+  of_all (Some r) h = (h.place.passes, λ n e. h.most n (every n e) e)
 
   pub candidates_suffice : LowestOfAll p (lowest_of (λ n. n) p ns)
   candidates_suffice = of_all (lowest_of (λ n. n) p ns) (lowest_of_right (λ n. n) p ns)
 
 pub holds_some : {A : Type 0} (p : A → Bool) (o : Option A) → holds p o ≡ true → is_some o ≡ true
-holds_some p none e = e
-holds_some p (some a) e = refl
+holds_some p None e = e
+holds_some p (Some a) e = refl
 
 -- ---- a range that a node holds is one that it was made to hold
 
 hold_next : (s : Span) (l : Option (Change Span)) (a r : ℕ) (rs : List ℕ) (b k e d : Bool) → (e ≡ true → a ≡ r)
     → (is_some (lasting l) ≡ true → Mem r rs)
-    → is_some (lasting (or_else (cond b (cond (k && e) (some (becomes s)) (when d ends)) none) l)) ≡ true
+    → is_some (lasting (or_else (cond b (cond (k && e) (Some (becomes s)) (when d ends)) None) l)) ≡ true
     → Mem r (add_some (when (b && k) a) rs)
 hold_next s l a r rs true true true d f g q = rw (f refl) here
 hold_next s l a r rs true true false true f g q = never q refl

@@ -2,7 +2,7 @@
 use mathlib.Core.Path.{◌≡◌, refl}
 use mathlib.Core.Bool.{Bool, true, false, cond, not, ◌&&◌}
 use mathlib.Core.List.{List, [], ◌∷◌, map}
-use mathlib.Core.Option.{Option, none, some}
+use Rattle.std.specs.Prelude.{Option, None, Some}
 use Prim.Native.Nat.{ℕ, suc, ◌≤◌}
 use native.Mathlib.Omega.{arith}
 use lib.Dec.{eqb, ltb, leb}
@@ -56,8 +56,8 @@ module _ {most : ℕ} where
 
   module _ {A : Type 0} where
     within_of : {f : A → Case} (o : Option A) → ((a : A) → KindWithin most (f a)) → KindWithin most (case_of f o)
-    within_of none p = within_clear
-    within_of (some a) p = p a
+    within_of None p = within_clear
+    within_of (Some a) p = p a
 
     within_earliest : {f : A → Case} (xs : List A) → ((a : A) → KindWithin most (f a)) → KindWithin most (earliest_case f xs)
     unfolding earliest_case
@@ -91,8 +91,8 @@ module _ {most : ℕ} {f : Evidence} where
 
 put_kinds : (o : Option Entry) (vs : List Entry) → KindWithin 3 (put_fault o vs)
 unfolding put_fault
-put_kinds none vs = within_clear
-put_kinds (some p) vs = within_of (latest_of (same_place p) vs) (λ v. within_if (not (held_eqb v.held p.held)) first_kind)
+put_kinds None vs = within_clear
+put_kinds (Some p) vs = within_of (latest_of (same_place p) vs) (λ v. within_if (not (held_eqb v.held p.held)) first_kind)
 
 puts_kinds : (h : History) → KindWithin 3 (puts_differ h)
 unfolding puts_differ
@@ -154,8 +154,8 @@ half_kinds x h =
     (within_or (within_if (is_kind 5 x) (missing_kinds 2 n (x ∷ h) (omega arith) (omega arith))) (within_of (registers x h) (registering_kinds x h))))
 
 write_kinds : (w : Write) (o : Option ℕ) (ws : List Write) → KindWithin 2 (write_fault w o ws)
-write_kinds w none ws = first_kind
-write_kinds w (some g) ws =
+write_kinds w None ws = first_kind
+write_kinds w (Some g) ws =
     within_if (any_of (λ o. key_eqb o.key w.key && opposes w.range g o) ws) (within_of (latest_of (is_earlier w.key) ws) (λ o. second_kind))
 
 generations_kinds : (x : TraceRecord) (h : History) → KindWithin 2 (generations_at x h)
@@ -163,8 +163,8 @@ unfolding generations_at
 generations_kinds x h = within_of (tells_write x h) (λ w. within_if (not (any_of (same_write w) (writes h))) (write_kinds w w.generation (writes h)))
 
 grant_kinds : (g : Grant) (o : Option Grant) (bs : List Grant) → KindWithin 3 (grant_fault g o bs)
-grant_kinds g (some o) bs = within_if (not (grant_eqb g o)) first_kind
-grant_kinds g none bs = within_cond (nonempty g) (within_if (any_of (shares g) bs) (within_of nearest (λ o. third_kind))) second_kind
+grant_kinds g (Some o) bs = within_if (not (grant_eqb g o)) first_kind
+grant_kinds g None bs = within_cond (nonempty g) (within_if (any_of (shares g) bs) (within_of nearest (λ o. third_kind))) second_kind
   where
     nearest : Option Grant
     nearest = greatest_of (λ o. o.first) (λ o. leb o.first g.last) bs
@@ -174,8 +174,8 @@ unfolding ids_at
 ids_kinds x h = within_of (tells_grant x h) (λ g. grant_kinds g (latest_of (same_index g) (first_grants h)) (blocks_of h))
 
 named_kinds : (x : TraceRecord) (o : Option Entry) → KindWithin 4 (named_fault x o)
-named_kinds x none = first_kind
-named_kinds x (some v) = within_if (differs_from x v.held) second_kind
+named_kinds x None = first_kind
+named_kinds x (Some v) = within_if (differs_from x v.held) second_kind
 
 name_kinds : (x : TraceRecord) (n : Name) → KindWithin 4 (name_fault x n)
 name_kinds x n =

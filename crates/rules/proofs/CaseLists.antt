@@ -2,7 +2,7 @@
 use mathlib.Core.Path.{◌≡◌, refl, sym, ap, ◌∙◌}
 use mathlib.Core.Bool.{Bool, true, false, cond}
 use mathlib.Core.List.{List, [], ◌∷◌}
-use mathlib.Core.Option.{Option, none, some}
+use Rattle.std.specs.Prelude.{Option, None, Some}
 use Rattle.rules.specs.declared.Case.{Case}
 use Rattle.rules.specs.declared.Case.TheVariants.{Clear, Fault}
 use Rattle.rules.specs.History.{when, or_else, those, latest_of, earliest_of}
@@ -43,8 +43,8 @@ module _ {A : Type 0} (f : A → Case) where
 
   earliest_next : (x : A) (xs : List A) (o : Option A) → Answer (Earliest is_faulty xs) is_faulty xs o
       → or_case (case_of f o) (f x) ≡ case_of f (or_else o (when (is_faulty x) x))
-  earliest_next x xs none h = by_case x (f x) refl
-  earliest_next x xs (some r) h = or_case_fault (f r) (f x) h.place.passes
+  earliest_next x xs None h = by_case x (f x) refl
+  earliest_next x xs (Some r) h = or_case_fault (f r) (f x) h.place.passes
 
   pub earliest_case_is : (xs : List A) → earliest_case f xs ≡ case_of f (earliest_of is_faulty xs)
   unfolding earliest_case earliest_of
@@ -65,7 +65,7 @@ module _ {A : Type 0} (f : A → Case) where
   clear_each [] h y m = mem_nil m
   clear_each (x ∷ xs) h y m = mem_cons (clear_head x xs h) (clear_each xs (clear_rest x xs h)) y m
 
-  pub found_clear : (p : A → Bool) (xs : List A) (y : A) → earliest_case f xs ≡ Clear → earliest_of p xs ≡ some y → f y ≡ Clear
+  pub found_clear : (p : A → Bool) (xs : List A) (y : A) → earliest_case f xs ≡ Clear → earliest_of p xs ≡ Some y → f y ≡ Clear
   found_clear p xs y h e = clear_each xs h y (placed_mem (earliest_meets p e).place)
 
   -- and two tests that agree wherever there is none find the same
@@ -75,7 +75,7 @@ module _ {A : Type 0} (f : A → Case) where
   earliest_agree p q e [] h = refl
   earliest_agree p q e (x ∷ xs) h = rw (e x (clear_head x xs h), earliest_agree p q e xs (clear_rest x xs h))
 
-  first_next : (x : A) (o : Option A) (c : Case) → f x ≡ c → or_case c (case_of f o) ≡ case_of f (cond (is_fault c) (some x) o)
+  first_next : (x : A) (o : Option A) (c : Case) → f x ≡ c → or_case c (case_of f o) ≡ case_of f (cond (is_fault c) (Some x) o)
   first_next x o Clear e = refl
   first_next x o (Fault kind ev) e = sym e
 

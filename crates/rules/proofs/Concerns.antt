@@ -2,7 +2,7 @@
 use mathlib.Core.Path.{◌≡◌, refl, sym, ap, ◌∙◌}
 use mathlib.Core.Bool.{true, false}
 use mathlib.Core.List.{List, [], ◌∷◌}
-use mathlib.Core.Option.{Option, none, some}
+use Rattle.std.specs.Prelude.{Option, None, Some}
 use Prim.Native.Nat.{ℕ}
 use native.Mathlib.Omega.{arith}
 use lib.Dec.{eqb}
@@ -99,11 +99,11 @@ module _ (x : TraceRecord) (h : History) where
   unfolding twice_at
   twice_clear p = marked_clear _ x.node (λ n. rw p)
 
-  pending_none : is_kind 2 x ≡ false → (p : Option Pending) → pending_split x p ≡ none
-  pending_none q none = refl
-  pending_none q (some p) = rw q
+  pending_none : is_kind 2 x ≡ false → (p : Option Pending) → pending_split x p ≡ None
+  pending_none q None = refl
+  pending_none q (Some p) = rw q
 
-  split_none : is_kind 1 x ≡ false → is_kind 2 x ≡ false → (n : Node) → split_by x h n ≡ none
+  split_none : is_kind 1 x ≡ false → is_kind 2 x ≡ false → (n : Node) → split_by x h n ≡ None
   split_none p q Missing = refl
   split_none p q (Marked n) = rw (p, pending_none q (pending n.0 h))
 

@@ -2,7 +2,7 @@
 use mathlib.Core.Path.{◌≡◌, refl, sym, ap, ◌∙◌}
 use mathlib.Core.Bool.{Bool, true, false}
 use mathlib.Core.List.{List, [], ◌∷◌, ◌++◌}
-use mathlib.Core.Option.{Option, none, some}
+use Rattle.std.specs.Prelude.{Option, None, Some}
 use Prim.Native.Nat.{ℕ}
 use Rattle.record.specs.Records.{TraceRecord}
 use Rattle.rules.specs.History.{History, is_by, is_some, latest}
@@ -12,22 +12,22 @@ use Rattle.rules.proofs.OwnDebts.{own_kinds}
 use Rattle.rules.proofs.Members.{Mem, here, there, mem_nil, mem_cons}
 
 module _ (node right : ℕ) where
-  pub owes_nil : owes node right [] ≡ none
+  pub owes_nil : owes node right [] ≡ None
   unfolding owes latest
   owes_nil = refl
 
   -- ---- one more record
 
   module _ (x : TraceRecord) (h : History) where
-    pub owes_cancelled : cancels node right x ≡ true → owes node right (x ∷ h) ≡ none
+    pub owes_cancelled : cancels node right x ≡ true → owes node right (x ∷ h) ≡ None
     unfolding owes latest
     owes_cancelled c = rw c
 
-    pub owes_arises : (s : Registered) → cancels node right x ≡ false → debt_at node right x h ≡ some s → owes node right (x ∷ h) ≡ some s
+    pub owes_arises : (s : Registered) → cancels node right x ≡ false → debt_at node right x h ≡ Some s → owes node right (x ∷ h) ≡ Some s
     unfolding owes latest
     owes_arises s c d = rw (c, d)
 
-    pub owes_kept : cancels node right x ≡ false → debt_at node right x h ≡ none → owes node right (x ∷ h) ≡ owes node right h
+    pub owes_kept : cancels node right x ≡ false → debt_at node right x h ≡ None → owes node right (x ∷ h) ≡ owes node right h
     unfolding owes latest
     owes_kept c d = rw (c, d)
 
@@ -35,27 +35,27 @@ module _ (node right : ℕ) where
     pub cancels_other : is_by node x ≡ false → cancels node right x ≡ false
     cancels_other b = rw b
 
-    pub debt_at_other : is_by node x ≡ false → registers x h ≡ none → debt_at node right x h ≡ none
+    pub debt_at_other : is_by node x ≡ false → registers x h ≡ None → debt_at node right x h ≡ None
     unfolding debt_at
     debt_at_other b r = rw (own_kinds node right x h, b, r)
 
   -- ---- which debt: it is the latest, and no cancel came since
 
   pub data Owed (s : Registered) : History → Type 0 where
-    now : {x : TraceRecord} {h : History} → cancels node right x ≡ false → debt_at node right x h ≡ some s → Owed s (x ∷ h)
-    kept : {x : TraceRecord} {h : History} → cancels node right x ≡ false → debt_at node right x h ≡ none → Owed s h → Owed s (x ∷ h)
+    now : {x : TraceRecord} {h : History} → cancels node right x ≡ false → debt_at node right x h ≡ Some s → Owed s (x ∷ h)
+    kept : {x : TraceRecord} {h : History} → cancels node right x ≡ false → debt_at node right x h ≡ None → Owed s h → Owed s (x ∷ h)
 
-  pub owed_found : {s : Registered} {h : History} → Owed s h → owes node right h ≡ some s
+  pub owed_found : {s : Registered} {h : History} → Owed s h → owes node right h ≡ Some s
   owed_found (now {x = x} {h = h} c d) = owes_arises x h _ c d
   owed_found (kept {x = x} {h = h} c d w) = owes_kept x h c d ∙ owed_found w
 
   next_owed : (x : TraceRecord) (h : History) (s : Registered) (b : Bool) (o : Option Registered) → cancels node right x ≡ b → debt_at node right x h ≡ o
-      → (owes node right h ≡ some s → Owed s h) → owes node right (x ∷ h) ≡ some s → Owed s (x ∷ h)
+      → (owes node right h ≡ Some s → Owed s h) → owes node right (x ∷ h) ≡ Some s → Owed s (x ∷ h)
   next_owed x h s true o c d f e = none_some (sym (owes_cancelled x h c) ∙ e)
-  next_owed x h s false none c d f e = kept c d (f (sym (owes_kept x h c d) ∙ e))
-  next_owed x h s false (some t) c d f e = now c (d ∙ sym (owes_arises x h t c d) ∙ e)
+  next_owed x h s false None c d f e = kept c d (f (sym (owes_kept x h c d) ∙ e))
+  next_owed x h s false (Some t) c d f e = now c (d ∙ sym (owes_arises x h t c d) ∙ e)
 
-  pub owes_right : (h : History) (s : Registered) → owes node right h ≡ some s → Owed s h
+  pub owes_right : (h : History) (s : Registered) → owes node right h ≡ Some s → Owed s h
   owes_right [] s e = none_some (sym owes_nil ∙ e)
   owes_right (x ∷ h) s e = next_owed x h s (cancels node right x) (debt_at node right x h) refl refl (owes_right h s) e
 
@@ -67,15 +67,15 @@ module _ (node right : ℕ) where
     pub earlier : History
     pub split : h ≡ later ++ (x ∷ earlier)
     pub debt : Registered
-    pub arises : debt_at node right x earlier ≡ some debt
+    pub arises : debt_at node right x earlier ≡ Some debt
     pub stands : (y : TraceRecord) → Mem y (x ∷ later) → cancels node right y ≡ false
 
   owing_next : (y : TraceRecord) (h : History) (o : Option Registered) → cancels node right y ≡ false → debt_at node right y h ≡ o
       → is_some (owes node right h) ≡ true → is_some (owes node right (y ∷ h)) ≡ true
-  owing_next y h none c d e = ap is_some (owes_kept y h c d) ∙ e
-  owing_next y h (some s) c d e = ap is_some (owes_arises y h s c d)
+  owing_next y h None c d e = ap is_some (owes_kept y h c d) ∙ e
+  owing_next y h (Some s) c d e = ap is_some (owes_arises y h s c d)
 
-  owing_at : (x : TraceRecord) (earlier : History) (s : Registered) → cancels node right x ≡ false → debt_at node right x earlier ≡ some s
+  owing_at : (x : TraceRecord) (earlier : History) (s : Registered) → cancels node right x ≡ false → debt_at node right x earlier ≡ Some s
       → (later : List TraceRecord) → ((y : TraceRecord) → Mem y later → cancels node right y ≡ false)
       → is_some (owes node right (later ++ (x ∷ earlier))) ≡ true
   owing_at x earlier s c d [] f = ap is_some (owes_arises x earlier s c d)

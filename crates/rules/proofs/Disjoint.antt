@@ -3,7 +3,7 @@
 use mathlib.Core.Path.{◌≡◌, sym, ◌∙◌, subst}
 use mathlib.Core.Bool.{Bool, true, false}
 use mathlib.Core.Logic.{⊎_elim}
-use mathlib.Core.Option.{Option, none, some}
+use Rattle.std.specs.Prelude.{Option, None, Some}
 use Prim.Native.Nat.{◌≤◌}
 use native.Mathlib.Omega.{arith}
 use native.Mathlib.Decide.{dec_le}
@@ -42,8 +42,8 @@ module _ (h : History) (clear : Arises ids_at h → ⊥) (g : Grant) where
 
   by_greatest : (a : Option Grant) → Answer (Greatest (λ o. o.first) below (blocks_of h)) below (blocks_of h) a
       → any_of (shares g) (blocks_of h) ≡ holds (shares g) a
-  by_greatest none w = none_any_of (shares g) (blocks_of h) (λ o m. rw (w o m))
-  by_greatest (some m) w =
+  by_greatest None w = none_any_of (shares g) (blocks_of h) (λ o m. rw (w o m))
+  by_greatest (Some m) w =
       let k : Mem m (blocks_of h) = placed_mem w.place in
       let l : m.first ≤ g.last = leb-true m.first g.last w.place.passes in
       ⊎_elim

@@ -2,7 +2,7 @@
 use mathlib.Core.Path.{◌≡◌, refl}
 use mathlib.Core.Bool.{Bool, true, false, cond}
 use mathlib.Core.List.{List, [], ◌∷◌, ◌++◌}
-use mathlib.Core.Option.{Option, none, some}
+use Rattle.std.specs.Prelude.{Option, None, Some}
 use mathlib.Core.Logic.{◌⊎◌, inl, inr, ⊎_elim}
 use Prim.Native.Nat.{◌≤◌}
 use native.Mathlib.Omega.{arith}
@@ -16,14 +16,14 @@ use Rattle.rules.proofs.Skips.{those_nil, those_hit, those_skip}
 module _ {A : Type 0} where
   -- one of the records told a, judged by it and those before
   pub data ToldBy (tells : Tells A) (a : A) : History → Type 0 where
-    now : {x : TraceRecord} {h : History} → tells x h ≡ some a → ToldBy tells a (x ∷ h)
+    now : {x : TraceRecord} {h : History} → tells x h ≡ Some a → ToldBy tells a (x ∷ h)
     before : {x : TraceRecord} {h : History} → ToldBy tells a h → ToldBy tells a (x ∷ h)
 
   told_next : (tells : Tells A) (x : TraceRecord) (h : History) {a : A} (o : Option A) → tells x h ≡ o → (Mem a (told tells h) → ToldBy tells a h)
       → Mem a (add_some o (told tells h)) → ToldBy tells a (x ∷ h)
-  told_next tells x h none e f m = before (f m)
-  told_next tells x h (some b) e f here = now e
-  told_next tells x h (some b) e f (there m) = before (f m)
+  told_next tells x h None e f m = before (f m)
+  told_next tells x h (Some b) e f here = now e
+  told_next tells x h (Some b) e f (there m) = before (f m)
 
   -- `told` has exactly what was told
   pub told_by : (tells : Tells A) (h : History) {a : A} → Mem a (told tells h) → ToldBy tells a h
@@ -32,8 +32,8 @@ module _ {A : Type 0} where
   told_by tells (x ∷ h) m = told_next tells x h (tells x h) refl (λ n. told_by tells h n) m
 
   pub add_mem : (o : Option A) {a : A} {xs : List A} → Mem a xs → Mem a (add_some o xs)
-  add_mem none m = m
-  add_mem (some b) m = there m
+  add_mem None m = m
+  add_mem (Some b) m = there m
 
   pub by_told : (tells : Tells A) {a : A} {h : History} → ToldBy tells a h → Mem a (told tells h)
   unfolding told
@@ -54,8 +54,8 @@ module _ {A : Type 0} where
     where
       by_tells : (o : Option A) → latest tells h ≡ latest_of (λ a. true) (told tells h)
           → or_else o (latest tells h) ≡ latest_of (λ a. true) (add_some o (told tells h))
-      by_tells none e = e
-      by_tells (some a) e = refl
+      by_tells None e = e
+      by_tells (Some a) e = refl
 
   -- ---- the first of each
 
@@ -65,8 +65,8 @@ module _ {A : Type 0} where
     joined : {x : A} {xs : List A} → NonePasses (same x) xs → Apart same xs → Apart same (x ∷ xs)
 
   apart_next : (same : A → A → Bool) (o : Option A) (xs : List A) → Apart same xs → Apart same (add_first same o xs)
-  apart_next same none xs w = w
-  apart_next same (some a) xs w = by_known (any_of (same a) xs) refl
+  apart_next same None xs w = w
+  apart_next same (Some a) xs w = by_known (any_of (same a) xs) refl
     where
       by_known : (b : Bool) → any_of (same a) xs ≡ b → Apart same (cond b xs (a ∷ xs))
       by_known true e = w
@@ -106,18 +106,18 @@ module _ {A : Type 0} where
 
 module _ {A : Type 0} (same : A → A → Bool) (tells : Tells A) where
   known_cases : (b : A) (xs : List A) {a : A} (k : Bool) → any_of (same b) xs ≡ k → Mem a (cond k xs (b ∷ xs))
-      → ((◌≡◌ {A = Option A} (some b) (some a)) × (any_of (same a) xs ≡ false)) ⊎ Mem a xs
+      → ((◌≡◌ {A = Option A} (Some b) (Some a)) × (any_of (same a) xs ≡ false)) ⊎ Mem a xs
   known_cases b xs true e n = inr n
   known_cases b xs false e here = inl (refl, e)
   known_cases b xs false e (there n) = inr n
 
-  first_cases : (o : Option A) (xs : List A) {a : A} → Mem a (add_first same o xs) → ((o ≡ some a) × (any_of (same a) xs ≡ false)) ⊎ Mem a xs
-  first_cases none xs m = inr m
-  first_cases (some b) xs m = known_cases b xs (any_of (same b) xs) refl m
+  first_cases : (o : Option A) (xs : List A) {a : A} → Mem a (add_first same o xs) → ((o ≡ Some a) × (any_of (same a) xs ≡ false)) ⊎ Mem a xs
+  first_cases None xs m = inr m
+  first_cases (Some b) xs m = known_cases b xs (any_of (same b) xs) refl m
 
   first_mem : (o : Option A) {a : A} {xs : List A} → Mem a xs → Mem a (add_first same o xs)
-  first_mem none m = m
-  first_mem (some b) {a} {xs} m = by_known (any_of (same b) xs)
+  first_mem None m = m
+  first_mem (Some b) {a} {xs} m = by_known (any_of (same b) xs)
     where
       by_known : (k : Bool) → Mem a (cond k xs (b ∷ xs))
       by_known true = m
@@ -140,7 +140,7 @@ module _ {A : Type 0} (same : A → A → Bool) (tells : Tells A) where
 
   -- a was told by a record before which nothing of the same was told
   pub data FirstBy (a : A) : History → Type 0 where
-    first : {x : TraceRecord} {h : History} → tells x h ≡ some a → NonePasses (same a) (told tells h) → FirstBy a (x ∷ h)
+    first : {x : TraceRecord} {h : History} → tells x h ≡ Some a → NonePasses (same a) (told tells h) → FirstBy a (x ∷ h)
     earlier : {x : TraceRecord} {h : History} → FirstBy a h → FirstBy a (x ∷ h)
 
   module _ (s : Sameness same) where

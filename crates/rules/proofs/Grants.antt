@@ -3,7 +3,7 @@ use mathlib.Core.Path.{◌≡◌, refl, sym, ap, ◌∙◌, subst}
 use mathlib.Core.Bool.{Bool, true, false, cond, not, ◌&&◌}
 use mathlib.Core.List.{List, [], ◌∷◌, map}
 use mathlib.Core.Logic.{inl, inr, ⊎_elim, ◌↔◌}
-use mathlib.Core.Option.{Option, none, some}
+use Rattle.std.specs.Prelude.{Option, None, Some}
 use Prim.Native.Nat.{ℕ, ◌≤◌}
 use native.Mathlib.Omega.{arith}
 use native.Mathlib.Decide.{dec_le}
@@ -133,11 +133,11 @@ unique_more g {gs} n a u = record {
 -- ---- one more record
 
 module _ (x : TraceRecord) (h : History) where
-  no_grant : tells_grant x h ≡ none → ids_at x h ≡ Clear
+  no_grant : tells_grant x h ≡ None → ids_at x h ≡ Clear
   unfolding ids_at
   no_grant e = rw e
 
-  by_grant : (g : Grant) → tells_grant x h ≡ some g → ids_at x h ≡ grant_fault g (latest_of (same_index g) (first_grants h)) (blocks_of h)
+  by_grant : (g : Grant) → tells_grant x h ≡ Some g → ids_at x h ≡ grant_fault g (latest_of (same_index g) (first_grants h)) (blocks_of h)
   unfolding ids_at
   by_grant g e = rw e
 
@@ -179,10 +179,10 @@ module _ (h : History) where
       where
         found : (a : Option Grant) → Answer (Greatest (λ o. o.first) below (blocks_of h)) below (blocks_of h) a
             → is_fault (case_of (λ (o : Grant). fault 3 (g.index ∷ o.first ∷ [])) a) ≡ true
-        found none w =
+        found None w =
             let s = any_of_some (shares g) (blocks_of h) e in
             never (and_left (leb s.it.first g.last) (leb g.first s.it.last) s.passes) (w s.it s.mem)
-        found (some o) w = refl
+        found (Some o) w = refl
 
     -- a first grant without a fault: it has an id, and no block shares one
     first_clear : is_fault (first_fault g (blocks_of h)) ≡ false → (nonempty g ≡ true) × (any_of (shares g) (blocks_of h) ≡ false)
@@ -200,7 +200,7 @@ module _ (h : History) where
     -- a grant that comes without a fault agrees with all before it ..
     more_unique : (o : Option Grant) → Answer (Latest (same_index g) (first_grants h)) (same_index g) (first_grants h) o
         → is_fault (grant_fault g o (blocks_of h)) ≡ false → Unique (told tells_grant h) → Unique (g ∷ told tells_grant h)
-    more_unique (some o) w c u =
+    more_unique (Some o) w c u =
         let m : Mem o (told tells_grant h) = first_told (placed_mem w.place) in
         let e : g ≡ o = same_grant g o w.place.passes (again (grant_eqb g o) c) in
         unique_within (mem_cons {P = λ (y : Grant). Mem y (told tells_grant h)} (subst (λ (y : Grant). Mem y (told tells_grant h)) (sym e) m) (λ y n. n)) u
@@ -208,7 +208,7 @@ module _ (h : History) where
         again : (b : Bool) → is_fault (fault_if (not b) (fault 1 (g.index ∷ []))) ≡ false → b ≡ true
         again true d = refl
         again false d = never refl d
-    more_unique none w c u =
+    more_unique None w c u =
         let f = first_clear c in
         unique_more g f.0 (λ o m. record {
           one = λ e. let k = first_at m in never (eq-eqb g.index k.0.index (e ∙ k.2)) (w k.0 k.1);
@@ -218,12 +218,12 @@ module _ (h : History) where
     -- .. and one that agrees with all before it comes without a fault
     more_clear : (o : Option Grant) → Answer (Latest (same_index g) (first_grants h)) (same_index g) (first_grants h) o
         → Unique (g ∷ told tells_grant h) → is_fault (grant_fault g o (blocks_of h)) ≡ false
-    more_clear (some o) w u =
+    more_clear (Some o) w u =
         let m : Mem o (told tells_grant h) = first_told (placed_mem w.place) in
         let e : g ≡ o = (u.pairs g o here (there m)).one (eqb-true g.index o.index w.place.passes) in
         let s : grant_eqb g o ≡ true = subst (λ (y : Grant). grant_eqb g y ≡ true) e (grant_itself g) in
         ap (λ (b : Bool). is_fault (fault_if (not b) (fault 1 (g.index ∷ [])))) s
-    more_clear none w u =
+    more_clear None w u =
         clear_first (u.some g here) (none_any_of (shares g) (blocks_of h) (λ o m.
         let b = block_told m in
         ⊎_elim
@@ -237,22 +237,22 @@ module _ (h : History) where
 
 module _ (x : TraceRecord) (h : History) where
   unique_step : (o : Option Grant) → tells_grant x h ≡ o → is_fault (ids_at x h) ≡ false → Unique (told tells_grant h) → Unique (told tells_grant (x ∷ h))
-  unique_step none e c u = rw (told_skip tells_grant x h e) u
-  unique_step (some g) e c u =
+  unique_step None e c u = rw (told_skip tells_grant x h e) u
+  unique_step (Some g) e c u =
       rw (told_hit tells_grant x h g e)
       (more_unique h g (latest_of (same_index g) (first_grants h)) (latest_of_right (same_index g) (first_grants h))
       (ap is_fault (sym (by_grant x h g e)) ∙ c) u)
 
   clear_step : (o : Option Grant) → tells_grant x h ≡ o → Unique (told tells_grant (x ∷ h)) → is_fault (ids_at x h) ≡ false
-  clear_step none e u = ap is_fault (no_grant x h e)
-  clear_step (some g) e u =
+  clear_step None e u = ap is_fault (no_grant x h e)
+  clear_step (Some g) e u =
       ap is_fault (by_grant x h g e)
       ∙ more_clear h g (latest_of (same_index g) (first_grants h)) (latest_of_right (same_index g) (first_grants h))
       (subst Unique (told_hit tells_grant x h g e) u)
 
   unique_before : (o : Option Grant) → tells_grant x h ≡ o → Unique (told tells_grant (x ∷ h)) → Unique (told tells_grant h)
-  unique_before none e u = subst Unique (told_skip tells_grant x h e) u
-  unique_before (some g) e u = unique_within (λ y m. there m) (subst Unique (told_hit tells_grant x h g e) u)
+  unique_before None e u = subst Unique (told_skip tells_grant x h e) u
+  unique_before (Some g) e u = unique_within (λ y m. there m) (subst Unique (told_hit tells_grant x h g e) u)
 
 told_clear : (h : History) → Unique (told tells_grant h) → Arises ids_at h → ⊥
 unfolding Arises

@@ -1,7 +1,7 @@
 -- Laws of big-endian numbers, and of the group that a start names.
 use mathlib.Core.Path.{◌≡◌, refl, sym, ap, ◌∙◌}
 use mathlib.Core.List.{List, [], ◌∷◌, ◌++◌}
-use mathlib.Core.Option.{none, some}
+use Rattle.std.specs.Prelude.{None, Some}
 use Prim.Native.Nat.{ℕ, suc, ◌+◌, ◌-◌, ◌*◌, ◌≤◌, ◌<◌}
 use native.Mathlib.Omega.{arith}
 use lib.ListN.{length, get_or, take, drop}
@@ -53,15 +53,15 @@ big64_halves p s {a} {b} h ea eb =
     omega arith
 
 module _ (tenant : ℕ) (key : Key) where
-  pub group_short : length key < 16 → none ≡ group_of tenant key
+  pub group_short : length key < 16 → None ≡ group_of tenant key
   unfolding group_of
   group_short l = rw (lt-leb 16 (length key) l)
 
-  pub group_other : {a : ℕ} → 16 ≤ length key → a ≡ big_endian (take 8 key) → (a ≡ tenant → ⊥) → none ≡ group_of tenant key
+  pub group_other : {a : ℕ} → 16 ≤ length key → a ≡ big_endian (take 8 key) → (a ≡ tenant → ⊥) → None ≡ group_of tenant key
   unfolding group_of
   group_other l e n = rw (le-leb 16 (length key) l, ← e, ne_eqb _ tenant n)
 
   pub group_named : {a b : ℕ} → 16 ≤ length key → a ≡ big_endian (take 8 key) → a ≡ tenant → b ≡ big_endian (take 8 (drop 8 key))
-      → some b ≡ group_of tenant key
+      → Some b ≡ group_of tenant key
   unfolding group_of
   group_named l e t g = rw (le-leb 16 (length key) l, ← e, eq-eqb _ tenant t, g)

@@ -2,7 +2,7 @@
 use mathlib.Core.Path.{◌≡◌, sym, ap, ◌∙◌}
 use mathlib.Core.Bool.{true, false, ◌&&◌, ◌||◌}
 use mathlib.Core.List.{◌∷◌}
-use mathlib.Core.Option.{none}
+use Rattle.std.specs.Prelude.{None}
 use Prim.Native.Nat.{ℕ}
 use native.Mathlib.Omega.{arith}
 use Rattle.record.specs.declared.named.Node.TheVariants.{Marked, Missing}
@@ -49,7 +49,7 @@ module _ (x : TraceRecord) (h : History) where
         e ∙ restated_fault 2 node.0 x h k ∙ g ∙ half_marked
 
     module _ (k : is_kind 3 x ≡ true) where
-      nothing : registers x h ≡ none
+      nothing : registers x h ≡ None
       nothing = registers_none x h (kind_apart 3 1 x (λ q. omega arith) k) (kind_apart 3 2 x (λ q. omega arith) k)
 
       not_restated : is_kind 5 x ≡ false

@@ -2,7 +2,7 @@
 use mathlib.Core.Path.{◌≡◌, refl, ap, ◌∙◌}
 use mathlib.Core.Bool.{Bool, true, false, cond, ◌&&◌}
 use mathlib.Core.List.{[], ◌∷◌}
-use mathlib.Core.Option.{Option, none, some}
+use Rattle.std.specs.Prelude.{Option, None, Some}
 use Prim.Native.Nat.{ℕ}
 use lib.Dec.{eqb}
 use Rattle.record.specs.Records.{Span, TraceRecord}
@@ -11,21 +11,21 @@ use Rattle.rules.specs.Descriptors.{span_of}
 use Rattle.rules.specs.OneOwnerPerKey.{is_holding, is_ending, tells_hold, hold_of, has_hold}
 
 span_cases : (b u v : Bool) (s : Span) (l : Option (Change Span))
-    → lasting (or_else (cond b (cond u (some (becomes s)) (when v ends)) none) l)
-    ≡ cond b (cond u (some s) (cond v none (lasting l))) (lasting l)
+    → lasting (or_else (cond b (cond u (Some (becomes s)) (when v ends)) None) l)
+    ≡ cond b (cond u (Some s) (cond v None (lasting l))) (lasting l)
 span_cases true true v s l = refl
 span_cases true false true s l = refl
 span_cases true false false s l = refl
 span_cases false u v s l = refl
 
 module _ (node range : ℕ) where
-  pub span_none : hold_of node range [] ≡ none
+  pub span_none : hold_of node range [] ≡ None
   unfolding hold_of latest
   span_none = refl
 
   pub span_step : (x : TraceRecord) (h : History) → hold_of node range (x ∷ h)
       ≡ cond (is_by node x)
-      (cond (is_holding x && eqb x.a range) (some (span_of 0 x)) (cond (is_ending range x) none (hold_of node range h))) (hold_of node range h)
+      (cond (is_holding x && eqb x.a range) (Some (span_of 0 x)) (cond (is_ending range x) None (hold_of node range h))) (hold_of node range h)
   unfolding hold_of latest
   span_step x h =
       span_cases (is_by node x) (is_holding x && eqb x.a range) (is_ending range x) (span_of 0 x) (latest (tells_hold node range) h)

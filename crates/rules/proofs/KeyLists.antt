@@ -2,7 +2,7 @@
 use mathlib.Core.Path.{◌≡◌, refl}
 use mathlib.Core.Bool.{Bool, true, false, cond, not, ◌&&◌}
 use mathlib.Core.List.{List, [], ◌∷◌}
-use mathlib.Core.Option.{Option, none, some}
+use Rattle.std.specs.Prelude.{Option, None, Some}
 use mathlib.Core.Logic.{⊎_elim}
 use Prim.Native.Nat.{ℕ, ◌+◌, ◌≤◌, ◌<◌}
 use native.Mathlib.Omega.{arith}
@@ -27,10 +27,10 @@ least_lower q k m ks false l e h =
 
 least_next : (q : Key → Bool) (k : Key) (ks : List Key) (b : Bool) (o : Option Key) → q k ≡ b → Answer (LeastKey q ks) q ks o
     → Answer (LeastKey q (k ∷ ks)) q (k ∷ ks) (cond b (lower_key k o) o)
-least_next q k ks true none e h = record { mem = here; passes = e; least = mem_cons (λ t. le_refl k) (λ j i t. never t (h j i)) }
-least_next q k ks true (some m) e h = least_lower q k m ks _ refl e h
-least_next q k ks false none e h = mem_cons e h
-least_next q k ks false (some m) e h = record { mem = there h.mem; passes = h.passes; least = mem_cons (λ t. never t e) h.least }
+least_next q k ks true None e h = record { mem = here; passes = e; least = mem_cons (λ t. le_refl k) (λ j i t. never t (h j i)) }
+least_next q k ks true (Some m) e h = least_lower q k m ks _ refl e h
+least_next q k ks false None e h = mem_cons e h
+least_next q k ks false (Some m) e h = record { mem = there h.mem; passes = h.passes; least = mem_cons (λ t. never t e) h.least }
 
 pub least_key_right : (q : Key → Bool) (ks : List Key) → Answer (LeastKey q ks) q ks (least_key q ks)
 unfolding least_key

@@ -2,7 +2,8 @@
 use mathlib.Core.Path.{◌≡◌, refl, sym, ap, ◌∙◌}
 use mathlib.Core.Bool.{Bool, true, false, cond}
 use mathlib.Core.Logic.{◌⊎◌, inl, inr}
-use mathlib.Core.Option.{Option, none, some, some_inj}
+use Rattle.std.proofs.lemmas.Option.{same_Some}
+use Rattle.std.specs.Prelude.{Option, None, Some}
 use Prim.Native.Nat.{ℕ, ◌≤◌}
 use native.Mathlib.Omega.{arith}
 use native.Mathlib.Decide.{dec_lt}
@@ -14,12 +15,12 @@ use Rattle.record.proofs.Booleans.{never, decide}
 
 -- the answer is at most a number
 abbrev pub at_most : Option ℕ → ℕ → Bool
-at_most none r = false
-at_most (some b) r = leb b r
+at_most None r = false
+at_most (Some b) r = leb b r
 
 -- the answer, if there is one, passes
 pub record Sound (P : ℕ → Bool) (o : Option ℕ) : Type 0 where
-  pub is : (b : ℕ) → o ≡ some b → P b ≡ true
+  pub is : (b : ℕ) → o ≡ Some b → P b ≡ true
 
 -- the answer is the lowest number that passes
 pub record Least (P : ℕ → Bool) (o : Option ℕ) : Type 0 where
@@ -27,34 +28,34 @@ pub record Least (P : ℕ → Bool) (o : Option ℕ) : Type 0 where
   pub least : (r : ℕ) → P r ≡ true → at_most o r ≡ true
 
 pub least_same : {P : ℕ → Bool} (o q : Option ℕ) → Least P o → Least P q → o ≡ q
-least_same none none p q = refl
-least_same none (some b) p q = never (p.least b (q.sound.is b refl)) refl
-least_same (some a) none p q = never (q.least a (p.sound.is a refl)) refl
-least_same (some a) (some b) p q =
+least_same None None p q = refl
+least_same None (Some b) p q = never (p.least b (q.sound.is b refl)) refl
+least_same (Some a) None p q = never (q.least a (p.sound.is a refl)) refl
+least_same (Some a) (Some b) p q =
     let l : a ≤ b = leb-true a b (p.least b (q.sound.is b refl)) in
     let m : b ≤ a = leb-true b a (q.least a (p.sound.is a refl)) in
     let e : a ≡ b = omega arith in
-    ap some e
+    ap Some e
 
 -- ---- one number more
 
 abbrev pub lowered : Bool → ℕ → Option ℕ → Option ℕ
 lowered t x o = cond t (lower (λ n. n) x o) o
 
-lower_is : (x y : ℕ) → (lower (λ n. n) x (some y) ≡ some x) ⊎ (lower (λ n. n) x (some y) ≡ some y)
+lower_is : (x y : ℕ) → (lower (λ n. n) x (Some y) ≡ Some x) ⊎ (lower (λ n. n) x (Some y) ≡ Some y)
 lower_is x y = elim (decide (ltb x y)) [ inl e ↦ inl (rw e) | inr e ↦ inr (rw e) ]
 
-pub none_sound : (P : ℕ → Bool) → Sound P none
+pub none_sound : (P : ℕ → Bool) → Sound P None
 none_sound P = record { is = λ b e. let z : ◌≡◌ {A = ℕ} 0 1 = cc in absurd (omega arith) }
 
 module _ (P : ℕ → Bool) (x : ℕ) where
   pub sound_lower : (t : Bool) (o : Option ℕ) → P x ≡ t → Sound P o → Sound P (lowered t x o)
   sound_lower false o e s = s
-  sound_lower true none e s = record { is = λ b q. ap P (sym (some_inj.0 q)) ∙ e }
-  sound_lower true (some y) e s = record {
+  sound_lower true None e s = record { is = λ b q. ap P (sym (same_Some _ _ q)) ∙ e }
+  sound_lower true (Some y) e s = record {
     is = λ b q.
         elim (lower_is x y) [
-          | inl h ↦ ap P (sym (some_inj.0 (sym h ∙ q))) ∙ e
+          | inl h ↦ ap P (sym (same_Some _ _ (sym h ∙ q))) ∙ e
           | inr h ↦ s.is b (sym h ∙ q)
         ];
   }
@@ -63,8 +64,8 @@ module _ (x r : ℕ) where
   -- it is no higher than it was ..
   pub at_most_still : (t : Bool) (o : Option ℕ) → at_most o r ≡ true → at_most (lowered t x o) r ≡ true
   at_most_still false o e = e
-  at_most_still true none e = never e refl
-  at_most_still true (some y) e =
+  at_most_still true None e = never e refl
+  at_most_still true (Some y) e =
       elim (dec_lt x y) [
         | yes l ↦ rw (lt-ltb x y l) (le-leb x r (omega (arith, leb-true y r e)))
         | no l ↦ rw (le-ltb x y (omega arith)) e
@@ -72,8 +73,8 @@ module _ (x r : ℕ) where
 
   -- .. and no higher than the new one
   pub at_most_new : (o : Option ℕ) → x ≤ r → at_most (lowered true x o) r ≡ true
-  at_most_new none l = le-leb x r l
-  at_most_new (some y) l =
+  at_most_new None l = le-leb x r l
+  at_most_new (Some y) l =
       elim (dec_lt x y) [
         | yes h ↦ rw (lt-ltb x y h) (le-leb x r l)
         | no h ↦ rw (le-ltb x y (omega arith)) (le-leb y r (omega arith))
@@ -82,9 +83,9 @@ module _ (x r : ℕ) where
 -- ---- what the rules say
 
 pub of_all : {P : ℕ → Bool} (o : Option ℕ) → LowestOfAll P o → Least P o
-of_all {P} none h = record { sound = none_sound P; least = λ r p. never p (h r) }
-of_all {P} (some b) h = record {
-  sound = record { is = λ c e. ap P (sym (some_inj.0 e)) ∙ h.0 };
+of_all {P} None h = record { sound = none_sound P; least = λ r p. never p (h r) }
+of_all {P} (Some b) h = record {
+  sound = record { is = λ c e. ap P (sym (same_Some _ _ e)) ∙ h.0 };
   least = λ r p. le-leb b r (h.1 r p);
 }
 
@@ -98,8 +99,8 @@ one_lowest P o q p l = least_same o q (of_all o p) (of_all q l)
 
 -- a number that the lowest is not below is at most every one that passes
 pub at_least : (P : ℕ → Bool) (o : Option ℕ) (r n : ℕ) → LowestOfAll P o → holds (λ b. ltb b r) o ≡ false → P n ≡ true → r ≤ n
-at_least P none r n w e p = never p (w n)
-at_least P (some b) r n w e p =
+at_least P None r n w e p = never p (w n)
+at_least P (Some b) r n w e p =
     let u : r ≤ b = ltb-false b r e in
     let v : b ≤ n = w.1 n p in
     omega arith

@@ -3,7 +3,7 @@
 use mathlib.Core.Path.{◌≡◌, refl, ap, ◌∙◌}
 use mathlib.Core.Bool.{Bool, true, false, cond, not, ◌&&◌}
 use mathlib.Core.List.{List, [], ◌∷◌}
-use mathlib.Core.Option.{Option, none, some}
+use Rattle.std.specs.Prelude.{Option, None, Some}
 use Prim.Native.Nat.{◌≤◌}
 use native.Mathlib.Omega.{arith}
 use lib.Dec.{ltb, leb}
@@ -62,7 +62,7 @@ Top k ns n = (m : Name) → Mem m ns → covers k m ≡ true → (m.index ≤ n.
 abbrev Highest : Key → List Name → Option Name → Type 0
 Highest k ns o = Answer (Top k ns) (covers k) ns o
 
-standing_nil : (k : Key) → standing_name [] k ≡ none
+standing_nil : (k : Key) → standing_name [] k ≡ None
 unfolding standing_name greatest_of
 standing_nil k = refl
 
@@ -75,7 +75,7 @@ module _ (x : TraceRecord) (ns : List Name) (k : Key) where
   unfolding standing_name greatest_of
   standing_more = refl
 
-  over : (n : Name) (l : Bool) → ltb n.index x.b ≡ l → is_fault (name_fault x n) ≡ false → Top k ns n → Highest k (new ∷ ns) (cond l (some new) (some n))
+  over : (n : Name) (l : Bool) → ltb n.index x.b ≡ l → is_fault (name_fault x n) ≡ false → Top k ns n → Highest k (new ∷ ns) (cond l (Some new) (Some n))
   over n true e c w =
       let i = ltb-true n.index x.b e in
       let g : n.generation ≤ x.d = rises x n e c in
@@ -84,10 +84,10 @@ module _ (x : TraceRecord) (ns : List Name) (k : Key) where
 
   more : (b : Bool) (o : Option Name) → covers k new ≡ b → (b ≡ true → is_fault (case_of (name_fault x) o) ≡ false) → Highest k ns o
       → Highest k (new ∷ ns) (cond b (greater (λ (n : Name). n.index) new o) o)
-  more true none e c h = mem_cons (λ q. (omega arith, omega arith)) (λ m j q. never q (h m j))
-  more true (some n) e c h = over n (ltb n.index x.b) refl (c refl) h
-  more false none e c h = mem_cons e h
-  more false (some n) e c h = mem_cons (λ q. never q e) h
+  more true None e c h = mem_cons (λ q. (omega arith, omega arith)) (λ m j q. never q (h m j))
+  more true (Some n) e c h = over n (ltb n.index x.b) refl (c refl) h
+  more false None e c h = mem_cons e h
+  more false (Some n) e c h = mem_cons (λ q. never q e) h
 
   clear_at : {c : Case} → FirstFaulty (key_fault x ns) (span_of 1 x).start (span_of 1 x).end c → is_fault c ≡ false → Le (span_of 1 x).start k
       → Lt k (span_of 1 x).end
@@ -154,8 +154,8 @@ module _ (x : TraceRecord) (h : History) (p : Passes h) {o : Name} (i : Mem o (n
   has_key k a b = rw ((le_le_le starts a).is, (lt_le_lt b ends).is)
 
   clear_of : (k : Key) → covers k o ≡ true → (s : Option Name) → Highest k (names h) s → is_fault (case_of (name_fault x) s) ≡ false
-  clear_of k c none w = never c (w o i)
-  clear_of k c (some n) w = let y = w o i c in not_against x n (omega (arith, y.0, index)) (omega (arith, y.1, generation))
+  clear_of k c None w = never c (w o i)
+  clear_of k c (Some n) w = let y = w o i c in not_against x n (omega (arith, y.0, index)) (omega (arith, y.1, generation))
 
   clear_key : (k : Key) → Le (span_of 1 x).start k → Lt k (span_of 1 x).end → is_fault (key_fault x (names h) k) ≡ false
   unfolding key_fault

@@ -2,7 +2,7 @@
 use mathlib.Core.Path.{◌≡◌, refl, sym, ap, ◌∙◌}
 use mathlib.Core.Bool.{Bool, true, false, not, ◌&&◌}
 use mathlib.Core.List.{List, [], ◌∷◌}
-use mathlib.Core.Option.{Option, none, some}
+use Rattle.std.specs.Prelude.{Option, None, Some}
 use mathlib.Core.Logic.{⊎_elim}
 use borrow.Author.Tests.{not-true}
 use Rattle.record.specs.Keys.{Key, key_ltb, inside, Lt, Le}
@@ -116,10 +116,10 @@ module _ (x : TraceRecord) (ns : List Name) (s e : Key) where
 
   outcome : (o : Option Key) → Answer (LeastKey is_candidate (s ∷ bounds ns)) is_candidate (s ∷ bounds ns) o
       → FirstFaulty (key_fault x ns) s e (case_of (key_fault x ns) o)
-  outcome none h = clean
+  outcome None h = clean
       (λ k a b. ⊎_elim (λ p. let w = witness k a b p in never w.passes (h w.it w.mem)) (λ p. p) (decide (is_faulty k)))
       refl
-  outcome (some m) h = at m (first_key m h) refl
+  outcome (Some m) h = at m (first_key m h) refl
 
   by_candidates : FirstFaulty (key_fault x ns) s e (case_of (key_fault x ns) (least_key is_candidate (s ∷ bounds ns)))
   by_candidates = outcome (least_key is_candidate (s ∷ bounds ns)) (least_key_right is_candidate (s ∷ bounds ns))
@@ -142,8 +142,8 @@ module _ (x : TraceRecord) (ns : List Name) where
   module _ (h : NoneFaulty) where
     clear_by : (k : Key) → Le (span_of 1 x).start k → Lt k (span_of 1 x).end → (o : Option Name)
         → Answer (Greatest (λ n. n.index) (covers k) ns) (covers k) ns o → is_fault (case_of (name_fault x) o) ≡ false
-    clear_by k a b none w = refl
-    clear_by k a b (some n) w = h k a b n (placed_mem w.place) w.place.passes
+    clear_by k a b None w = refl
+    clear_by k a b (Some n) w = h k a b n (placed_mem w.place) w.place.passes
 
     clear_key : (k : Key) → Le (span_of 1 x).start k → Lt k (span_of 1 x).end → is_fault (key_fault x ns k) ≡ false
     unfolding key_fault

@@ -4,7 +4,7 @@ use mathlib.Core.Path.{◌≡◌, refl, sym, ap, ◌∙◌}
 use mathlib.Core.Bool.{true, false}
 use mathlib.Core.List.{List, [], ◌∷◌}
 use mathlib.Core.Logic.{⊎_elim}
-use mathlib.Core.Option.{Option}
+use Rattle.std.specs.Prelude.{Option}
 use Rattle.record.specs.Keys.{Key, Lt, Le}
 use Rattle.record.specs.Records.{TraceRecord}
 use Rattle.record.proofs.Keys.{lt_or_le, le_refl, clash, lt_le, lt_le_lt, le_le_le}

@@ -4,7 +4,8 @@ use mathlib.Core.Path.{◌≡◌, refl, sym, ap, ◌∙◌, subst}
 use mathlib.Core.Bool.{Bool, true, false, cond, not, ◌&&◌, ◌||◌, and-false}
 use mathlib.Core.List.{List, [], ◌∷◌, map}
 use mathlib.Core.Logic.{◌⊎◌, inl, inr, ⊎_elim}
-use mathlib.Core.Option.{Option, none, some, some_inj}
+use Rattle.std.proofs.lemmas.Option.{same_Some}
+use Rattle.std.specs.Prelude.{Option, None, Some}
 use Prim.Native.Nat.{ℕ, ◌<◌}
 use native.Mathlib.Omega.{arith}
 use lib.Dec.{eqb, ltb}
@@ -39,18 +40,18 @@ abbrev debt_case : ℕ → ℕ → ℕ → Option Registered → Case
 debt_case kind node right o = case_of (λ s. fault kind (node ∷ s.parent ∷ s.index ∷ right ∷ [])) o
 
 module _ (kind node : ℕ) (h : History) where
-  pub missing_none : none ≡ lowest_missing node h → Clear ≡ missing_fault kind node h
+  pub missing_none : None ≡ lowest_missing node h → Clear ≡ missing_fault kind node h
   unfolding missing_fault
   missing_none e = rw (← e)
 
   -- what is missing is owed by a split
   owed_case : {right : ℕ} {c : Case} → is_missing node h right ≡ true → (o : Option Registered) → owes node right h ≡ o
-      → ((s : Registered) → owes node right h ≡ some s → c ≡ fault kind (node ∷ s.parent ∷ s.index ∷ right ∷ [])) → c ≡ debt_case kind node right o
-  owed_case {right} m none q f = never (and_left (is_some (owes node right h)) _ m) (ap is_some q)
-  owed_case m (some s) q f = f s q
+      → ((s : Registered) → owes node right h ≡ Some s → c ≡ fault kind (node ∷ s.parent ∷ s.index ∷ right ∷ [])) → c ≡ debt_case kind node right o
+  owed_case {right} m None q f = never (and_left (is_some (owes node right h)) _ m) (ap is_some q)
+  owed_case m (Some s) q f = f s q
 
-  pub missing_some : {right : ℕ} {c : Case} → some right ≡ lowest_missing node h
-      → ((s : Registered) → owes node right h ≡ some s → c ≡ fault kind (node ∷ s.parent ∷ s.index ∷ right ∷ [])) → c ≡ missing_fault kind node h
+  pub missing_some : {right : ℕ} {c : Case} → Some right ≡ lowest_missing node h
+      → ((s : Registered) → owes node right h ≡ Some s → c ≡ fault kind (node ∷ s.parent ∷ s.index ∷ right ∷ [])) → c ≡ missing_fault kind node h
   unfolding missing_fault
   missing_some {right} e f =
       let m = subst (LowestOfAll (is_missing node h)) (sym e) (missing_right node h) in
@@ -58,10 +59,10 @@ module _ (kind node : ℕ) (h : History) where
 
 -- two histories with the same lowest, which is owed by the same split
 fault_same : (kind node : ℕ) (g h : History) (o : Option ℕ) → lowest_missing node g ≡ o → lowest_missing node h ≡ o
-    → ((right : ℕ) → o ≡ some right → owes node right g ≡ owes node right h) → missing_fault kind node g ≡ missing_fault kind node h
+    → ((right : ℕ) → o ≡ Some right → owes node right g ≡ owes node right h) → missing_fault kind node g ≡ missing_fault kind node h
 unfolding missing_fault
-fault_same kind node g h none e f q = rw (e, f)
-fault_same kind node g h (some right) e f q = rw (e, f) (ap (debt_case kind node right) (q right refl))
+fault_same kind node g h None e f q = rw (e, f)
+fault_same kind node g h (Some right) e f q = rw (e, f) (ap (debt_case kind node right) (q right refl))
 
 -- ---- a record that makes nothing owed
 
@@ -73,11 +74,11 @@ lowest_same p q e (x ∷ xs) = rw (e x, lowest_same p q e xs)
 
 -- one that neither registers a split nor applies one
 quiet_debt : (node right : ℕ) (x : TraceRecord) (h : History) → is_kind 1 x ≡ false → is_kind 2 x ≡ false → is_kind 7 x ≡ false → is_kind 3 x ≡ false
-    → debt_at node right x h ≡ none
+    → debt_at node right x h ≡ None
 unfolding debt_at
 quiet_debt node right x h a b c d = rw (own_kinds node right x h, c, d, b, registers_none x h a b) (go (is_by node x))
   where
-    go : (t : Bool) → or_else {A = Registered} (cond t none none) none ≡ none
+    go : (t : Bool) → or_else {A = Registered} (cond t None None) None ≡ None
     go true = refl
     go false = refl
 
@@ -126,9 +127,9 @@ module _ (node : ℕ) (x : TraceRecord) (h : History) (b : is_by node x ≡ true
     abbrev test : Registered → Bool
     test u = is_split x.a x.b u && eqb u.right right && is_voter node h u
 
-    or_none : (o : Option Registered) → or_else o none ≡ o
-    or_none none = refl
-    or_none (some u) = refl
+    or_none : (o : Option Registered) → or_else o None ≡ o
+    or_none None = refl
+    or_none (Some u) = refl
 
     took_debt : debt_at node right x h ≡ latest_of test (registered h)
     unfolding debt_at
@@ -142,19 +143,19 @@ module _ (node : ℕ) (x : TraceRecord) (h : History) (b : is_by node x ≡ true
         )
         (or_none (latest_of test (registered h)))
 
-    took_cases : (t : Bool) → its s ≡ t → owes node right (x ∷ h) ≡ cond t (some s) (owes node right h)
+    took_cases : (t : Bool) → its s ≡ t → owes node right (x ∷ h) ≡ cond t (Some s) (owes node right h)
     took_cases t e =
-        go t (took_debt ∙ only_split h x.a x.b s mem at (λ u. eqb u.right right) (is_voter node h) ∙ ap (λ (v : Bool). cond v (some s) none) e)
+        go t (took_debt ∙ only_split h x.a x.b s mem at (λ u. eqb u.right right) (is_voter node h) ∙ ap (λ (v : Bool). cond v (Some s) None) e)
       where
         kept : cancels node right x ≡ false
         kept = rw (took_kind 9 (λ q. omega arith), took_kind 10 (λ q. omega arith)) (and-false (is_by node x))
 
-        go : (v : Bool) → debt_at node right x h ≡ cond v (some s) none → owes node right (x ∷ h) ≡ cond v (some s) (owes node right h)
+        go : (v : Bool) → debt_at node right x h ≡ cond v (Some s) None → owes node right (x ∷ h) ≡ cond v (Some s) (owes node right h)
         go true d = owes_arises node right x h s kept d
         go false d = owes_kept node right x h kept d
 
     -- the split is owed by the record, where the server is a voter; else what was owed before
-    pub took_owes : owes node right (x ∷ h) ≡ cond (its s) (some s) (owes node right h)
+    pub took_owes : owes node right (x ∷ h) ≡ cond (its s) (Some s) (owes node right h)
     took_owes = took_cases (its s) refl
 
     pub took_held : has_hold node right (x ∷ h) ≡ has_hold node right h
@@ -163,7 +164,7 @@ module _ (node : ℕ) (x : TraceRecord) (h : History) (b : is_by node x ≡ true
         (took_kind 9 (λ q. omega arith))
         (took_kind 10 (λ q. omega arith))
 
-    some_cond : (t : Bool) (o : Option Registered) → is_some (cond t (some s) o) ≡ t || is_some o
+    some_cond : (t : Bool) (o : Option Registered) → is_some (cond t (Some s) o) ≡ t || is_some o
     some_cond true o = refl
     some_cond false o = refl
 
@@ -203,7 +204,7 @@ module _ (node : ℕ) (x : TraceRecord) (h : History) (b : is_by node x ≡ true
       let i : eqb s.right s.right && is_voter node h s ≡ true = both (eq-eqb s.right s.right refl) v in
       let p : next s.right ≡ true =
       took_missing node x h b took s mem at s.right ∙ both (or_left _ (is_some (owes node s.right h)) i) (and_right (is_voter node h s) _ o) in
-      let e : lowest_missing node (x ∷ h) ≡ some s.right =
+      let e : lowest_missing node (x ∷ h) ≡ Some s.right =
       one_lowest next _ _ (missing_right node (x ∷ h)) (
         p,
         λ n q. ⊎_elim (λ w. let z : s.right ≡ n = w.its in omega arith)
@@ -211,8 +212,8 @@ module _ (node : ℕ) (x : TraceRecord) (h : History) (b : is_by node x ≡ true
       ) in
       missing_some 1 node (x ∷ h) (sym e)
       (λ t q.
-      let d : owes node s.right (x ∷ h) ≡ some s = took_owes node x h b took s mem at s.right ∙ rw i in
-      let z : s ≡ t = some_inj.0 (sym d ∙ q) in
+      let d : owes node s.right (x ∷ h) ≡ Some s = took_owes node x h b took s mem at s.right ∙ rw i in
+      let z : s ≡ t = same_Some _ _ (sym d ∙ q) in
       let f : s.parent ≡ x.a = eqb-true s.parent x.a (and_left (eqb s.parent x.a) _ at) in
       let g : s.index ≡ x.b = eqb-true s.index x.b (and_right (eqb s.parent x.a) _ at) in
       ec ∙ rw (← z, f, g))
@@ -223,12 +224,12 @@ module _ (node : ℕ) (x : TraceRecord) (h : History) (b : is_by node x ≡ true
     below r w = rw w.its at other (both w.voter w.free)
 
     went_on : (o : Option ℕ) → lowest_missing node h ≡ o → LowestOfAll (is_missing node h) o → LowestOfAll next o
-    went_on none e w = λ n. ⊎_elim (λ p. ⊎_elim (λ q. never (rw e at below n q) refl) (λ q. never q (w n)) (either n p)) (λ p. p) (decide (next n))
-    went_on (some l) e w =
+    went_on None e w = λ n. ⊎_elim (λ p. ⊎_elim (λ q. never (rw e at below n q) refl) (λ q. never q (w n)) (either n p)) (λ p. p) (decide (next n))
+    went_on (Some l) e w =
         (still l w.0, λ n p. ⊎_elim (λ q. let z : l < n = ltb-true l n (rw e at below n q) in omega arith) (w.1 n) (either n p))
 
-    same_owed : (l : ℕ) → lowest_missing node h ≡ some l → is_missing node h l ≡ true → (t : Bool) → eqb s.right l && is_voter node h s ≡ t
-        → cond t (some s) (owes node l h) ≡ owes node l h
+    same_owed : (l : ℕ) → lowest_missing node h ≡ Some l → is_missing node h l ≡ true → (t : Bool) → eqb s.right l && is_voter node h s ≡ t
+        → cond t (Some s) (owes node l h) ≡ owes node l h
     same_owed l e m false q = refl
     same_owed l e m true q =
         let w : Own l = record {

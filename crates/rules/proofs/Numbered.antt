@@ -2,7 +2,7 @@
 use mathlib.Core.Path.{◌≡◌, refl}
 use mathlib.Core.Bool.{Bool, true, false, cond}
 use mathlib.Core.List.{List, [], ◌∷◌, ◌++◌}
-use mathlib.Core.Option.{Option, none, some}
+use Rattle.std.specs.Prelude.{Option, None, Some}
 use Prim.Native.Nat.{ℕ, ◌≤◌, ◌<◌}
 use native.Mathlib.Omega.{arith}
 use lib.ListN.{length}
@@ -37,7 +37,7 @@ module _ {A : Type 0} (number : A → ℕ) where
   earliest_lowest p {r = r} f w y m q =
       lowest_at p r w.place.earlier w.place.later (rw w.place.split at f) w.before y (rw w.place.split at m) q
 
-  module _ (tells : Tells A) (numbered : (x : TraceRecord) (h : History) (a : A) → tells x h ≡ some a → number a ≡ number_after h) where
+  module _ (tells : Tells A) (numbered : (x : TraceRecord) (h : History) (a : A) → tells x h ≡ Some a → number a ≡ number_after h) where
     -- no number is above that of the newest record
     pub told_number : {a : A} {h : History} → ToldBy tells a h → number a ≤ length h
     told_number {a} (now {x = x} {h = h} e) = omega (arith, numbered x h a e)
@@ -45,8 +45,8 @@ module _ {A : Type 0} (number : A → ℕ) where
 
     first_falls : (same : A → A → Bool) (x : TraceRecord) (h : History) (o : Option A) → tells x h ≡ o → Falling (firsts same tells h)
         → Falling (add_first same o (firsts same tells h))
-    first_falls same x h none e f = f
-    first_falls same x h (some a) e f = by_known (any_of (same a) (firsts same tells h))
+    first_falls same x h None e f = f
+    first_falls same x h (Some a) e f = by_known (any_of (same a) (firsts same tells h))
       where
         bounded : (y : A) → Mem y (firsts same tells h) → number y ≤ length h
         bounded y m = told_number (told_by tells h (firsts_told same tells h m))

@@ -2,7 +2,7 @@
 use mathlib.Core.Path.{◌≡◌, refl, sym, ◌∙◌}
 use mathlib.Core.Bool.{Bool, true, false, cond, not, ◌&&◌}
 use mathlib.Core.List.{List, ◌∷◌}
-use mathlib.Core.Option.{Option, none, some}
+use Rattle.std.specs.Prelude.{Option, None, Some}
 use Prim.Native.Nat.{ℕ}
 use lib.Dec.{eqb}
 use borrow.Author.Tests.{eqb-true, eq-eqb}
@@ -94,8 +94,8 @@ by_known false s ss = refl
 
 by_tells : (h : History) (o : Option Registered) (ss : List Registered) → registered h ≡ ss
     → add_first same_split o ss ≡ add_some (given (unless_known h) o) ss
-by_tells h none ss e = refl
-by_tells h (some s) ss e = rw e (by_known (any_of (same_split s) ss) s ss)
+by_tells h None ss e = refl
+by_tells h (Some s) ss e = rw e (by_known (any_of (same_split s) ss) s ss)
 
 pub registered_step : (x : TraceRecord) (h : History) → registered (x ∷ h) ≡ add_some (registers x h) (registered h)
 unfolding registered firsts registers

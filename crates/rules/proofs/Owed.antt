@@ -2,7 +2,7 @@
 use mathlib.Core.Path.{◌≡◌, refl, subst}
 use mathlib.Core.Bool.{Bool, true, false, ◌&&◌}
 use mathlib.Core.List.{List, [], ◌∷◌, map}
-use mathlib.Core.Option.{Option, none, some}
+use Rattle.std.specs.Prelude.{Option, None, Some}
 use Prim.Native.Nat.{ℕ}
 use lib.Dec.{eqb}
 use borrow.Author.Tests.{eqb-true}
@@ -26,13 +26,13 @@ pub record Due (right : ℕ) (ss : List Registered) (s : Registered) : Type 0 wh
 
 -- .. where there is one
 abbrev pub DueIf : ℕ → List Registered → Option Registered → Type 0
-DueIf right ss none = Unit {0}
-DueIf right ss (some s) = Due right ss s
+DueIf right ss None = Unit {0}
+DueIf right ss (Some s) = Due right ss s
 
 module _ (right : ℕ) (ss : List Registered) where
   due_or : (a b : Option Registered) → DueIf right ss a → DueIf right ss b → DueIf right ss (or_else a b)
-  due_or none b d e = e
-  due_or (some s) b d e = d
+  due_or None b d e = e
+  due_or (Some s) b d e = d
 
   -- what is found among them by a test that asks for the right range
   module _ (p : Registered → Bool) (its : (s : Registered) → p s ≡ true → s.right ≡ right) where
@@ -40,8 +40,8 @@ module _ (right : ℕ) (ss : List Registered) where
     due_placed {s} w = record { mem = placed_mem w; its = its s w.passes }
 
     greatest_by : (o : Option Registered) → Answer (Greatest (λ s. s.index) p ss) p ss o → DueIf right ss o
-    greatest_by none h = tt
-    greatest_by (some s) h = due_placed h.place
+    greatest_by None h = tt
+    greatest_by (Some s) h = due_placed h.place
 
     greatest_due : DueIf right ss (greatest_of (λ s. s.index) p ss)
     greatest_due = greatest_by (greatest_of (λ s. s.index) p ss) (greatest_of_right (λ s. s.index) p ss)
@@ -50,16 +50,16 @@ module _ (node right : ℕ) (x : TraceRecord) (h : History) where
   -- what the record registers
   registering_next : (o : Option Registered) → registered (x ∷ h) ≡ add_some o (registered h)
       → DueIf right (registered (x ∷ h)) (given (λ s. when (owes_by_registering node right h s) s) o)
-  registering_next none e = tt
-  registering_next (some s) e = by_test (owes_by_registering node right h s) refl
+  registering_next None e = tt
+  registering_next (Some s) e = by_test (owes_by_registering node right h s) refl
     where
       by_test : (b : Bool) → owes_by_registering node right h s ≡ b → DueIf right (registered (x ∷ h)) (when b s)
       by_test true t = record { mem = rw e here; its = eqb-true _ _ (and_left _ (is_voter node h s) (and_left _ _ t)) }
       by_test false t = tt
 
   due_more : (o : Option Registered) → DueIf right (registered h) o → DueIf right (registered (x ∷ h)) o
-  due_more none d = tt
-  due_more (some s) d = record { mem = rw (registered_step x h) (add_mem (registers x h) d.mem); its = d.its }
+  due_more None d = tt
+  due_more (Some s) d = record { mem = rw (registered_step x h) (add_mem (registers x h) d.mem); its = d.its }
 
   -- the record's own debt
   abbrev is_owed : Registered → Bool
@@ -82,8 +82,8 @@ module _ (node right : ℕ) (x : TraceRecord) (h : History) where
   owes_next : (k : Bool) (o : Option Registered) → cancels node right x ≡ k → debt_at node right x h ≡ o → DueIf right (registered (x ∷ h)) o
       → DueIf right (registered h) (owes node right h) → DueIf right (registered (x ∷ h)) (owes node right (x ∷ h))
   owes_next true o c d e f = rw (owes_cancelled node right x h c) tt
-  owes_next false none c d e f = rw (owes_kept node right x h c d) (due_more (owes node right h) f)
-  owes_next false (some s) c d e f = rw (owes_arises node right x h s c d) e
+  owes_next false None c d e f = rw (owes_kept node right x h c d) (due_more (owes node right h) f)
+  owes_next false (Some s) c d e f = rw (owes_arises node right x h s c d) e
 
 -- what a node owes
 pub owes_due : (node right : ℕ) (h : History) → DueIf right (registered h) (owes node right h)
@@ -98,8 +98,8 @@ map_mem f here = here
 map_mem f (there m) = there (map_mem f m)
 
 due_mem : (right : ℕ) (ss : List Registered) (o : Option Registered) → DueIf right ss o → is_some o ≡ true → Mem right (map (λ s. s.right) ss)
-due_mem right ss none d e = never e refl
-due_mem right ss (some s) d e = subst (λ (n : ℕ). Mem n (map (λ s. s.right) ss)) d.its (map_mem (λ s. s.right) d.mem)
+due_mem right ss None d e = never e refl
+due_mem right ss (Some s) d e = subst (λ (n : ℕ). Mem n (map (λ s. s.right) ss)) d.its (map_mem (λ s. s.right) d.mem)
 
 pub missing_right : (node : ℕ) (h : History) → LowestOfAll (is_missing node h) (lowest_of (λ r. r) (is_missing node h) (map (λ s. s.right) (registered h)))
 missing_right node h =

@@ -3,7 +3,7 @@
 use mathlib.Core.Path.{◌≡◌, refl, sym, ap, ◌∙◌}
 use mathlib.Core.Bool.{Bool, true, false, cond, not, ◌&&◌, ◌||◌, and-true, and-false, or-false}
 use mathlib.Core.List.{List, [], ◌∷◌}
-use mathlib.Core.Option.{Option, none, some}
+use Rattle.std.specs.Prelude.{Option, None, Some}
 use mathlib.Core.Logic.{⊎_elim}
 use Prim.Native.Nat.{ℕ}
 use native.Mathlib.Omega.{arith}
@@ -32,10 +32,10 @@ module _ {A : Type 0} (number : A → ℕ) where
   -- where one element alone passes, the greatest is the latest
   module _ (p : A → Bool) (xs : List A) (one : (y z : A) → Mem y xs → Mem z xs → p y ≡ true → p z ≡ true → y ≡ z) where
     one_found : (a b : Option A) → Answer (Greatest number p xs) p xs a → Answer (Latest p xs) p xs b → a ≡ b
-    one_found none none f g = refl
-    one_found none (some r) f g = never g.place.passes (f r (placed_mem g.place))
-    one_found (some r) none f g = never f.place.passes (g r (placed_mem f.place))
-    one_found (some r) (some s) f g = ap some (one r s (placed_mem f.place) (placed_mem g.place) f.place.passes g.place.passes)
+    one_found None None f g = refl
+    one_found None (Some r) f g = never g.place.passes (f r (placed_mem g.place))
+    one_found (Some r) None f g = never f.place.passes (g r (placed_mem f.place))
+    one_found (Some r) (Some s) f g = ap Some (one r s (placed_mem f.place) (placed_mem g.place) f.place.passes g.place.passes)
 
     greatest_latest : greatest_of number p xs ≡ latest_of p xs
     greatest_latest = one_found (greatest_of number p xs) (latest_of p xs) (greatest_of_right number p xs) (latest_of_right p xs)
@@ -65,7 +65,7 @@ module _ (node right : ℕ) (x : TraceRecord) (h : History) where
   abbrev pub own_by_kind : Option Registered
   own_by_kind =
       cond (is_kind 7 x || has_effect Took x) (latest_of is_own (registered h))
-      (cond (is_kind 2 x && not (is_restated node h)) (greatest_of (λ s. s.index) is_covered (registered (x ∷ h))) none)
+      (cond (is_kind 2 x && not (is_restated node h)) (greatest_of (λ s. s.index) is_covered (registered (x ∷ h))) None)
 
   same_test : (s : Registered) {b : Bool} → applies node s.parent s.index x h ≡ b → is_applied s ≡ b && eqb s.right right && is_voter node h s
   same_test s e = ap (λ (v : Bool). v && eqb s.right right && is_voter node h s) e
@@ -81,11 +81,11 @@ module _ (node right : ℕ) (x : TraceRecord) (h : History) where
           let w = and_left (is_split x.a x.b u) (eqb u.right right) (and_left _ (is_voter node h u) e) in
           (eqb-true _ _ (and_left (eqb u.parent x.a) _ w), eqb-true _ _ (and_right (eqb u.parent x.a) _ w))
 
-  none_applied : ((s : Registered) → applies node s.parent s.index x h ≡ false) → own_debt node right x h ≡ none
+  none_applied : ((s : Registered) → applies node s.parent s.index x h ≡ false) → own_debt node right x h ≡ None
   unfolding own_debt
   none_applied f = greatest_none (λ s. s.index) is_applied (registered (x ∷ h)) (λ s m. same_test s (f s))
 
-  own_other : is_by node x ≡ false → own_debt node right x h ≡ none
+  own_other : is_by node x ≡ false → own_debt node right x h ≡ None
   own_other b = none_applied (λ s. rw b)
 
   module _ (b : is_by node x ≡ true) where
@@ -128,12 +128,12 @@ module _ (node right : ℕ) (x : TraceRecord) (h : History) where
           its s m = rw (b, not_7, not_took, k, n, known (x ∷ h) m, eqb_turn x.a s.parent, and-true (leb s.index x.c))
 
       -- any other record
-      own_none : is_kind 2 x && not (is_restated node h) ≡ false → own_debt node right x h ≡ none
+      own_none : is_kind 2 x && not (is_restated node h) ≡ false → own_debt node right x h ≡ None
       own_none e = none_applied (λ s. rw (not_7, not_took, e) (and-false (is_by node x && eqb x.a s.parent)))
 
     own_here : (k t d r : Bool) → is_kind 7 x ≡ k → has_effect Took x ≡ t → is_kind 2 x ≡ d → is_restated node h ≡ r
         → own_debt node right x h
-        ≡ cond (k || t) (latest_of is_own (registered h)) (cond (d && not r) (greatest_of (λ s. s.index) is_covered (registered (x ∷ h))) none)
+        ≡ cond (k || t) (latest_of is_own (registered h)) (cond (d && not r) (greatest_of (λ s. s.index) is_covered (registered (x ∷ h))) None)
     own_here true t d r ek et ed er = own_7 ek
     own_here false true d r ek et ed er = own_took et
     own_here false false true false ek et ed er = own_2 ek et ed er
@@ -141,9 +141,9 @@ module _ (node right : ℕ) (x : TraceRecord) (h : History) where
     own_here false false false r ek et ed er = own_none ek et (rw ed)
 
   -- THE LAW OF A NODE'S OWN DEBTS: what it comes to owe by its own record, kind by kind
-  pub own_kinds : own_debt node right x h ≡ cond (is_by node x) own_by_kind none
+  pub own_kinds : own_debt node right x h ≡ cond (is_by node x) own_by_kind None
   own_kinds = go (is_by node x) refl
     where
-      go : (b : Bool) → is_by node x ≡ b → own_debt node right x h ≡ cond b own_by_kind none
+      go : (b : Bool) → is_by node x ≡ b → own_debt node right x h ≡ cond b own_by_kind None
       go true e = own_here e (is_kind 7 x) (has_effect Took x) (is_kind 2 x) (is_restated node h) refl refl refl refl
       go false e = own_other e

@@ -1,7 +1,7 @@
 -- The cases of overlap, install and twice, by what the record is and what is found.
 use mathlib.Core.Path.{◌≡◌, sym, ◌∙◌}
 use mathlib.Core.Bool.{true, false, not}
-use mathlib.Core.Option.{Option, none, some}
+use Rattle.std.specs.Prelude.{Option, None, Some}
 use Prim.Native.Nat.{ℕ}
 use lib.Dec.{eqb}
 use Rattle.record.specs.declared.named.Node.{Node}
@@ -45,11 +45,11 @@ module _ (x : TraceRecord) (h : History) where
     overlap_other e = sym (marked _ m ∙ rw e)
 
     module _ {a : ℕ} {o : Option ℕ} (e : is_holding x ≡ true) (ea : a ≡ x.a) (eo : o ≡ lowest_meeting (λ r. not (eqb r a)) (span_of 0 x) n.0 h) where
-      pub overlap_met : {r : ℕ} → o ≡ some r → fault_by n.0 a r ≡ overlap_at x h
+      pub overlap_met : {r : ℕ} → o ≡ Some r → fault_by n.0 a r ≡ overlap_at x h
       unfolding overlap_at
       overlap_met s = sym (marked _ m ∙ rw (e, ← ea, ← eo, s))
 
-      pub overlap_apart : o ≡ none → Clear ≡ overlap_at x h
+      pub overlap_apart : o ≡ None → Clear ≡ overlap_at x h
       unfolding overlap_at
       overlap_apart s = sym (marked _ m ∙ rw (e, ← ea, ← eo, s))
 
@@ -77,12 +77,12 @@ module _ (x : TraceRecord) (h : History) where
 -- ---- install, of one span
 
 module _ (tenant : ℕ) (x : TraceRecord) (h : History) (node : ℕ) (s : Span) {g : Option ℕ} (eg : g ≡ group_of tenant s.start) where
-  pub replaced_named : {k : ℕ} → g ≡ some k → Clear ≡ install_fault tenant x h node s
+  pub replaced_named : {k : ℕ} → g ≡ Some k → Clear ≡ install_fault tenant x h node s
   replaced_named e = rw (← eg, e)
 
-  module _ {o : Option ℕ} (e : g ≡ none) (eo : o ≡ lowest_meeting (λ r. not (is_named tenant x.spans r)) s node h) where
-    pub replaced_met : {r : ℕ} → o ≡ some r → fault_by node r 0 ≡ install_fault tenant x h node s
+  module _ {o : Option ℕ} (e : g ≡ None) (eo : o ≡ lowest_meeting (λ r. not (is_named tenant x.spans r)) s node h) where
+    pub replaced_met : {r : ℕ} → o ≡ Some r → fault_by node r 0 ≡ install_fault tenant x h node s
     replaced_met p = rw (← eg, e, ← eo, p)
 
-    pub replaced_apart : o ≡ none → Clear ≡ install_fault tenant x h node s
+    pub replaced_apart : o ≡ None → Clear ≡ install_fault tenant x h node s
     replaced_apart p = rw (← eg, e, ← eo, p)

@@ -4,7 +4,7 @@ use mathlib.Core.Path.{◌≡◌, refl, sym, ap, ◌∙◌}
 use mathlib.Core.Bool.{Bool, true, false, not, ◌&&◌, ◌||◌}
 use mathlib.Core.List.{List, [], ◌∷◌}
 use mathlib.Core.Logic.{◌⊎◌, inl, inr, ⊎_elim}
-use mathlib.Core.Option.{Option, none, some}
+use Rattle.std.specs.Prelude.{Option, None, Some}
 use Prim.Native.Nat.{ℕ, ◌<◌}
 use native.Mathlib.Omega.{arith}
 use native.Mathlib.Decide.{dec_lt, ℕ_discrete}
@@ -33,7 +33,7 @@ opposed key range g o = key_eqb o.key key && opposes range g o
 -- every write has a generation, and none older of its key opposes it
 data Risen : List Write → Type 0 where
   alone : Risen []
-  above : {w : Write} {os : List Write} {g : ℕ} → w.generation ≡ some g → any_of (opposed w.key w.range g) os ≡ false → Risen os → Risen (w ∷ os)
+  above : {w : Write} {os : List Write} {g : ℕ} → w.generation ≡ Some g → any_of (opposed w.key w.range g) os ≡ false → Risen os → Risen (w ∷ os)
 
 -- "a higher generation, or another range and the same generation", as facts
 against_is : (range g by v : ℕ) → ltb g v || (not (eqb by range) && eqb v g) ≡ true → (g < v) ⊎ ((by ≡ range → ⊥) × (v ≡ g))
@@ -53,7 +53,7 @@ against_other range g by v n e =
     or_right (ltb g v) (not (eqb by range) && eqb v g) (both (ap not (ne_eqb by range n)) (eq-eqb v g e))
 
 -- a write that opposes the new one, and does not oppose w: then w opposes the new one
-module _ (range g : ℕ) (w : Write) {u : ℕ} (wg : w.generation ≡ some u) where
+module _ (range g : ℕ) (w : Write) {u : ℕ} (wg : w.generation ≡ Some u) where
   weigh : (v by : ℕ) → ltb g v || (not (eqb by range) && eqb v g) ≡ true → ltb u v || (not (eqb by w.range) && eqb v u) ≡ false
       → ltb g u || (not (eqb w.range range) && eqb u g) ≡ true
   weigh v by e d =
@@ -79,8 +79,8 @@ module _ (range g : ℕ) (w : Write) {u : ℕ} (wg : w.generation ≡ some u) wh
       go : (b : Option ℕ) → holds (λ v. ltb g v || (not (eqb o.range range) && eqb v g)) b ≡ true
           → holds (λ v. ltb u v || (not (eqb o.range w.range) && eqb v u)) b ≡ false
           → ltb g u || (not (eqb w.range range) && eqb u g) ≡ true
-      go none p q = never p refl
-      go (some v) p q = weigh v o.range p q
+      go None p q = never p refl
+      go (Some v) p q = weigh v o.range p q
 
   -- so where any older one of its key does, w does
   last_opposes : (key : Key) (os : List Write) → key_eqb w.key key ≡ true → any_of (opposed w.key w.range u) os ≡ false
@@ -125,7 +125,7 @@ last_decides key range g (above {w} {os} {g = u} e n r) = go (key_eqb w.key key)
 -- ---- while no fault arose the writes have risen
 
 -- an opposing write of the key has a generation: so the key has a last one
-last_exists : (key : Key) (range g : ℕ) (ws : List Write) → any_of (opposed key range g) ws ≡ true → latest_of (is_earlier key) ws ≡ none → ⊥
+last_exists : (key : Key) (range g : ℕ) (ws : List Write) → any_of (opposed key range g) ws ≡ true → latest_of (is_earlier key) ws ≡ None → ⊥
 last_exists key range g ws e n =
     let f = any_of_some (opposed key range g) ws e in
     let k = and_left (key_eqb f.it.key key) (opposes range g f.it) f.passes in
@@ -135,33 +135,33 @@ last_exists key range g ws e n =
     never z (any_latest (is_earlier key) ws ∙ ap is_some n)
   where
     rated : (p : ℕ → Bool) (b : Option ℕ) → holds p b ≡ true → holds (λ v. true) b ≡ true
-    rated p none q = q
-    rated p (some v) q = refl
+    rated p None q = q
+    rated p (Some v) q = refl
 
-module _ (x : TraceRecord) (h : History) {w : Write} (t : tells_write x h ≡ some w) (n : any_of (same_write w) (writes h) ≡ false)
+module _ (x : TraceRecord) (h : History) {w : Write} (t : tells_write x h ≡ Some w) (n : any_of (same_write w) (writes h) ≡ false)
     (c : is_fault (generations_at x h) ≡ true → ⊥) where
   case_is : generations_at x h ≡ write_fault w w.generation (writes h)
   unfolding generations_at
   case_is = rw (t, n)
 
-  has_generation : (b : Option ℕ) → w.generation ≡ b → (g : ℕ) × (w.generation ≡ some g)
-  has_generation none e = absurd (c (ap is_fault (case_is ∙ ap (λ (b : Option ℕ). write_fault w b (writes h)) e)))
-  has_generation (some g) e = (g, e)
+  has_generation : (b : Option ℕ) → w.generation ≡ b → (g : ℕ) × (w.generation ≡ Some g)
+  has_generation None e = absurd (c (ap is_fault (case_is ∙ ap (λ (b : Option ℕ). write_fault w b (writes h)) e)))
+  has_generation (Some g) e = (g, e)
 
-  none_opposed : {g : ℕ} → w.generation ≡ some g → any_of (opposed w.key w.range g) (writes h) ≡ false
+  none_opposed : {g : ℕ} → w.generation ≡ Some g → any_of (opposed w.key w.range g) (writes h) ≡ false
   none_opposed {g} e = go (any_of (opposed w.key w.range g) (writes h)) (latest_of (is_earlier w.key) (writes h)) refl refl
     where
       go : (s : Bool) (b : Option Write) → any_of (opposed w.key w.range g) (writes h) ≡ s → latest_of (is_earlier w.key) (writes h) ≡ b → s ≡ false
       go false b p q = refl
-      go true none p q = absurd (last_exists w.key w.range g (writes h) p q)
-      go true (some o) p q = absurd (c (ap is_fault (case_is ∙ ap (λ (b : Option ℕ). write_fault w b (writes h)) e) ∙ rw (p, q)))
+      go true None p q = absurd (last_exists w.key w.range g (writes h) p q)
+      go true (Some o) p q = absurd (c (ap is_fault (case_is ∙ ap (λ (b : Option ℕ). write_fault w b (writes h)) e) ∙ rw (p, q)))
 
 risen : (h : History) → (Arises generations_at h → ⊥) → Risen (writes h)
 unfolding Arises writes
 risen [] n = rw (firsts_nil tells_write same_write) alone
 risen (x ∷ h) n = go (tells_write x h) refl (risen h (λ a. n (inr a)))
   where
-    pick : (w : Write) (s : Bool) → tells_write x h ≡ some w → any_of (same_write w) (firsts same_write tells_write h) ≡ s
+    pick : (w : Write) (s : Bool) → tells_write x h ≡ Some w → any_of (same_write w) (firsts same_write tells_write h) ≡ s
         → Risen (firsts same_write tells_write h)
         → Risen (firsts same_write tells_write (x ∷ h))
     pick w true t k r = rw (firsts_known same_write tells_write x h w t k) r
@@ -170,8 +170,8 @@ risen (x ∷ h) n = go (tells_write x h) refl (risen h (λ a. n (inr a)))
         rw (firsts_hit same_write tells_write x h w t k) (above g.1 (none_opposed x h t k (λ z. n (inl z)) g.1) r)
 
     go : (o : Option Write) → tells_write x h ≡ o → Risen (firsts same_write tells_write h) → Risen (firsts same_write tells_write (x ∷ h))
-    go none t r = rw (firsts_skip same_write tells_write x h t) r
-    go (some w) t r = pick w (any_of (same_write w) (firsts same_write tells_write h)) t refl r
+    go None t r = rw (firsts_skip same_write tells_write x h t) r
+    go (Some w) t r = pick w (any_of (same_write w) (firsts same_write tells_write h)) t refl r
 
 -- THE LAW: while the generations report is a pass, some earlier write of a key opposes a new one exactly where the key's last does
 pub last_write_decides : (h : History) → (report_of (at_last generations_at) h).verdict ≡ Pass → (key : Key) (range g : ℕ)

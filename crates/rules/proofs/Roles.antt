@@ -1,7 +1,8 @@
 -- What a record puts and states: its value, at the index that its kind says.
 use mathlib.Core.Path.{◌≡◌, refl, sym, ap, ◌∙◌}
 use mathlib.Core.Bool.{Bool, true, false, cond}
-use mathlib.Core.Option.{some, some-injective}
+use Rattle.std.proofs.lemmas.Option.{same_Some}
+use Rattle.std.specs.Prelude.{Some}
 use Prim.Native.Nat.{ℕ}
 use native.Mathlib.Omega.{arith}
 use Rattle.record.specs.declared.named.RangeCause.{RangeCause}
@@ -55,23 +56,23 @@ module _ (x : TraceRecord) (h : History) where
   unfolding role_of role_by
   states_index i e = by_states x (is_kind 1 x) (is_kind 2 x) (reached x h x.node) i e
 
-  put_entry : (role : Role) {v : Entry} → role_of x h ≡ role → put_by role x h ≡ some v → v ≡ entry_at x.b x h
-  put_entry (puts i) {v} r e = sym (some-injective (entry_at i x h) v e) ∙ ap (λ (j : ℕ). entry_at j x h) (puts_index i r)
+  put_entry : (role : Role) {v : Entry} → role_of x h ≡ role → put_by role x h ≡ Some v → v ≡ entry_at x.b x h
+  put_entry (puts i) {v} r e = sym (same_Some (entry_at i x h) v e) ∙ ap (λ (j : ℕ). entry_at j x h) (puts_index i r)
   put_entry (states i) r e = none_some e
   put_entry neither r e = none_some e
 
-  stated_entry : (role : Role) {v : Entry} → role_of x h ≡ role → stated_by role x h ≡ some v → v ≡ entry_at (cond (is_kind 1 x) x.b x.c) x h
+  stated_entry : (role : Role) {v : Entry} → role_of x h ≡ role → stated_by role x h ≡ Some v → v ≡ entry_at (cond (is_kind 1 x) x.b x.c) x h
   stated_entry (puts i) r e = none_some e
-  stated_entry (states i) {v} r e = sym (some-injective (entry_at i x h) v e) ∙ ap (λ (j : ℕ). entry_at j x h) (states_index i r)
+  stated_entry (states i) {v} r e = sym (same_Some (entry_at i x h) v e) ∙ ap (λ (j : ℕ). entry_at j x h) (states_index i r)
   stated_entry neither r e = none_some e
 
   -- so is what it tells
-  pub puts_entry : {v : Entry} → tells_put x h ≡ some v → v ≡ entry_at x.b x h
+  pub puts_entry : {v : Entry} → tells_put x h ≡ Some v → v ≡ entry_at x.b x h
   puts_entry e = put_entry (role_of x h) refl e
 
-  pub states_entry : {v : Entry} → tells_stated x h ≡ some v → v ≡ entry_at (cond (is_kind 1 x) x.b x.c) x h
+  pub states_entry : {v : Entry} → tells_stated x h ≡ Some v → v ≡ entry_at (cond (is_kind 1 x) x.b x.c) x h
   states_entry e = stated_entry (role_of x h) refl e
 
-  pub put_generation : {v : Entry} → tells_put x h ≡ some v → v.held.generation ≡ x.d
+  pub put_generation : {v : Entry} → tells_put x h ≡ Some v → v.held.generation ≡ x.d
   unfolding held_by
   put_generation e = ap (λ (u : Entry). u.held.generation) (puts_entry e)

@@ -2,7 +2,7 @@
 use mathlib.Core.Path.{◌≡◌, refl}
 use mathlib.Core.Bool.{Bool, true, false, cond}
 use mathlib.Core.List.{List, [], ◌∷◌}
-use mathlib.Core.Option.{Option, none, some}
+use Rattle.std.specs.Prelude.{Option, None, Some}
 use Prim.Native.Nat.{ℕ}
 use Rattle.record.specs.Records.{TraceRecord}
 use Rattle.rules.specs.History.{History, Tells, when, or_else, any_of, those, latest_of, earliest_of, greatest_of, lowest_of, told, latest, firsts}
@@ -13,8 +13,8 @@ module _ {A : Type 0} where
   either false a = refl
 
   skipped : (a : A) (b : Bool) → b ≡ false → (o : Option A) → or_else o (when b a) ≡ o
-  skipped a b e none = rw e
-  skipped a b e (some y) = refl
+  skipped a b e None = rw e
+  skipped a b e (Some y) = refl
 
 -- nothing yet
 module _ {A : Type 0} (p : A → Bool) where
@@ -26,7 +26,7 @@ module _ {A : Type 0} (p : A → Bool) where
   unfolding those
   those_nil = refl
 
-  pub latest_of_nil : latest_of p [] ≡ none
+  pub latest_of_nil : latest_of p [] ≡ None
   unfolding latest_of
   latest_of_nil = refl
 
@@ -57,7 +57,7 @@ module _ {A : Type 0} (p : A → Bool) (x : A) (xs : List A) where
   unfolding those
   those_skip e = rw e
 
-  pub latest_of_hit : p x ≡ true → latest_of p (x ∷ xs) ≡ some x
+  pub latest_of_hit : p x ≡ true → latest_of p (x ∷ xs) ≡ Some x
   unfolding latest_of
   latest_of_hit e = rw e
 
@@ -66,11 +66,11 @@ module _ {A : Type 0} (p : A → Bool) (x : A) (xs : List A) where
   latest_of_skip e = rw e
 
   -- an earlier one was found, or the new one is the first to pass
-  pub earliest_of_kept : (y : A) → earliest_of p xs ≡ some y → earliest_of p (x ∷ xs) ≡ some y
+  pub earliest_of_kept : (y : A) → earliest_of p xs ≡ Some y → earliest_of p (x ∷ xs) ≡ Some y
   unfolding earliest_of
   earliest_of_kept y e = rw e
 
-  pub earliest_of_hit : earliest_of p xs ≡ none → p x ≡ true → earliest_of p (x ∷ xs) ≡ some x
+  pub earliest_of_hit : earliest_of p xs ≡ None → p x ≡ true → earliest_of p (x ∷ xs) ≡ Some x
   unfolding earliest_of
   earliest_of_hit e f = rw (e, f)
 
@@ -89,32 +89,32 @@ module _ {A : Type 0} (number : A → ℕ) (p : A → Bool) (x : A) (xs : List A
 
 -- one more record
 module _ {A : Type 0} (tells : Tells A) (x : TraceRecord) (h : History) where
-  pub told_hit : (a : A) → tells x h ≡ some a → told tells (x ∷ h) ≡ a ∷ told tells h
+  pub told_hit : (a : A) → tells x h ≡ Some a → told tells (x ∷ h) ≡ a ∷ told tells h
   unfolding told
   told_hit a e = rw e
 
-  pub told_skip : tells x h ≡ none → told tells (x ∷ h) ≡ told tells h
+  pub told_skip : tells x h ≡ None → told tells (x ∷ h) ≡ told tells h
   unfolding told
   told_skip e = rw e
 
-  pub latest_hit : (a : A) → tells x h ≡ some a → latest tells (x ∷ h) ≡ some a
+  pub latest_hit : (a : A) → tells x h ≡ Some a → latest tells (x ∷ h) ≡ Some a
   unfolding latest
   latest_hit a e = rw e
 
-  pub latest_skip : tells x h ≡ none → latest tells (x ∷ h) ≡ latest tells h
+  pub latest_skip : tells x h ≡ None → latest tells (x ∷ h) ≡ latest tells h
   unfolding latest
   latest_skip e = rw e
 
 module _ {A : Type 0} (same : A → A → Bool) (tells : Tells A) (x : TraceRecord) (h : History) where
-  pub firsts_skip : tells x h ≡ none → firsts same tells (x ∷ h) ≡ firsts same tells h
+  pub firsts_skip : tells x h ≡ None → firsts same tells (x ∷ h) ≡ firsts same tells h
   unfolding firsts
   firsts_skip e = rw e
 
   -- it tells of what no earlier one did, or of what is known
-  pub firsts_hit : (a : A) → tells x h ≡ some a → any_of (same a) (firsts same tells h) ≡ false → firsts same tells (x ∷ h) ≡ a ∷ firsts same tells h
+  pub firsts_hit : (a : A) → tells x h ≡ Some a → any_of (same a) (firsts same tells h) ≡ false → firsts same tells (x ∷ h) ≡ a ∷ firsts same tells h
   unfolding firsts
   firsts_hit a e f = rw (e, f)
 
-  pub firsts_known : (a : A) → tells x h ≡ some a → any_of (same a) (firsts same tells h) ≡ true → firsts same tells (x ∷ h) ≡ firsts same tells h
+  pub firsts_known : (a : A) → tells x h ≡ Some a → any_of (same a) (firsts same tells h) ≡ true → firsts same tells (x ∷ h) ≡ firsts same tells h
   unfolding firsts
   firsts_known a e f = rw (e, f)

@@ -2,7 +2,7 @@
 use mathlib.Core.Path.{◌≡◌, refl, ap}
 use mathlib.Core.Bool.{Bool, true, false, cond, ◌&&◌, and-false, or-false}
 use mathlib.Core.List.{[], ◌∷◌}
-use mathlib.Core.Option.{Option, none, some}
+use Rattle.std.specs.Prelude.{Option, None, Some}
 use Prim.Native.Nat.{ℕ}
 use lib.Dec.{eqb}
 use Rattle.record.specs.Records.{TraceRecord}
@@ -18,7 +18,7 @@ module _ (node parent index : ℕ) where
   is_traced x = is_by node x && eqb x.a parent && (is_kind 7 x && eqb x.b index)
 
   abbrev pub tells_traced : TraceRecord → History → Option Bool
-  tells_traced x h = cond (is_traced x) (some true) (when (is_by node x && is_kind 10 x) false)
+  tells_traced x h = cond (is_traced x) (Some true) (when (is_by node x && is_kind 10 x) false)
 
   -- what is not registered after a record was not before
   pub unregistered_before : (x : TraceRecord) (h : History) → is_registered parent index (x ∷ h) ≡ false → is_registered parent index h ≡ false
@@ -32,8 +32,8 @@ module _ (node parent index : ℕ) where
 
     not_registering : (o : Option Registered) → registered (x ∷ h) ≡ add_some o (registered h)
         → holds (λ s. is_split parent index s && reaches node s h) o ≡ false
-    not_registering none q = refl
-    not_registering (some s) q =
+    not_registering None q = refl
+    not_registering (Some s) q =
         let n : is_split parent index s ≡ false = any_of_none (is_split parent index) (registered (x ∷ h)) e s (rw q here) in
         ap (λ (b : Bool). b && reaches node s h) n
 

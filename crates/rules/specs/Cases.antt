@@ -1,6 +1,5 @@
 -- What a check says of a record: nothing, or a fault with its kind and evidence.
-use Rattle.std.specs.Prelude.{◌≡◌, Bool, true, false, List, [], ◌∷◌, ℕ, ◌≤◌, get_or}
-use Rattle.std.proofs.Math.Option.{Option, none, some}
+use Rattle.std.specs.Prelude.{◌≡◌, Bool, true, false, List, [], ◌∷◌, ℕ, ◌≤◌, get_or, Option, None, Some}
 use Rattle.rules.specs.declared.Case.{Case}
 use Rattle.rules.specs.declared.Case.TheVariants.{Clear, Fault}
 use Rattle.rules.specs.declared.Evidence.{Evidence}
@@ -33,8 +32,8 @@ or_case (Fault kind e) d = Fault kind e
 module _ {A : Type 0} where
   -- the case of what was found, and none where nothing was
   abbrev pub case_of : (A → Case) → Option A → Case
-  case_of f none = Clear
-  case_of f (some a) = f a
+  case_of f None = Clear
+  case_of f (Some a) = f a
 
   -- the earliest fault of a list that is newest first
   unfoldable pub earliest_case : (A → Case) → List A → Case

@@ -1,6 +1,5 @@
 -- `Descriptors`: the values of ranges, their look-ups, and agreement.
-use Rattle.std.specs.Prelude.{◌≡◌, Bool, true, false, cond, not, ◌&&◌, ◌||◌, List, [], ◌∷◌, ℕ, length, get_or, eqb, ltb, leb}
-use Rattle.std.proofs.Math.Option.{Option, none, some}
+use Rattle.std.specs.Prelude.{◌≡◌, Bool, true, false, cond, not, ◌&&◌, ◌||◌, List, [], ◌∷◌, ℕ, length, get_or, eqb, ltb, leb, Option, None, Some}
 use Rattle.record.specs.declared.named.Node.{Node}
 use Rattle.record.specs.declared.named.Node.TheVariants.{Marked, Missing}
 use Rattle.record.specs.declared.named.RangeCause.{RangeCause}
@@ -108,14 +107,14 @@ abbrev pub entry_at : ℕ → TraceRecord → History → Entry
 entry_at index x h = record { range = range_of x; index = index; held = held_by x; number = number_after h }
 
 abbrev pub put_by : Role → TraceRecord → History → Option Entry
-put_by (puts i) x h = some (entry_at i x h)
-put_by (states i) x h = none
-put_by neither x h = none
+put_by (puts i) x h = Some (entry_at i x h)
+put_by (states i) x h = None
+put_by neither x h = None
 
 abbrev pub stated_by : Role → TraceRecord → History → Option Entry
-stated_by (puts i) x h = none
-stated_by (states i) x h = some (entry_at i x h)
-stated_by neither x h = none
+stated_by (puts i) x h = None
+stated_by (states i) x h = Some (entry_at i x h)
+stated_by neither x h = None
 
 -- what a record puts, and what it states
 abbrev pub tells_put : TraceRecord → History → Option Entry
@@ -149,8 +148,8 @@ first_at_generation_in range generation vs = earliest_of (λ v. eqb v.range rang
 
 -- a put that "differs from the standing value"
 unfoldable pub put_fault : Option Entry → List Entry → Case
-put_fault none vs = Clear
-put_fault (some p) vs =
+put_fault None vs = Clear
+put_fault (Some p) vs =
     case_of (λ v. fault_if (not (held_eqb v.held p.held)) (fault 1 (p.range ∷ p.index ∷ []))) (latest_of (same_place p) vs)
 
 -- kind 1 of a beginning: the earliest put that differs from the value that stands at its range and index

@@ -1,6 +1,5 @@
 -- `GenerationsRise`: the writes that count, and the generations check.
-use Rattle.std.specs.Prelude.{Bool, true, not, ◌&&◌, ◌||◌, List, [], ◌∷◌, ℕ, length, eqb, ltb, leb}
-use Rattle.std.proofs.Math.Option.{Option, none, some}
+use Rattle.std.specs.Prelude.{Bool, true, not, ◌&&◌, ◌||◌, List, [], ◌∷◌, ℕ, length, eqb, ltb, leb, Option, None, Some}
 use Rattle.record.specs.declared.named.ApplyEffect.{ApplyEffect}
 use Rattle.record.specs.declared.named.ApplyEffect.TheVariants.{Applied}
 use Rattle.record.specs.Keys.{Key, key_eqb}
@@ -24,8 +23,8 @@ pub record Write : Type 0 where
   pub generation : Option ℕ
 
 abbrev pub generation_of : Option Entry → Option ℕ
-generation_of none = none
-generation_of (some v) = some v.held.generation
+generation_of None = None
+generation_of (Some v) = Some v.held.generation
 
 -- an "Applied write with a key"
 abbrev pub tells_write : TraceRecord → History → Option Write
@@ -55,8 +54,8 @@ opposes range generation o =
     holds (λ g. ltb generation g || (not (eqb o.range range) && eqb g generation)) o.generation
 
 abbrev pub last_generation : Option ℕ → ℕ
-last_generation none = 0
-last_generation (some g) = g
+last_generation None = 0
+last_generation (Some g) = g
 
 -- kind 2: "range, index, generation, then the key's last write's generation and range"
 abbrev pub rise_fault : Write → ℕ → List Write → Case
@@ -66,8 +65,8 @@ rise_fault w g ws =
 
 -- a write that counts: "Kind 1: none: range, index", else kind 2
 abbrev pub write_fault : Write → Option ℕ → List Write → Case
-write_fault w none ws = fault 1 (w.range ∷ w.index ∷ [])
-write_fault w (some g) ws = rise_fault w g ws
+write_fault w None ws = fault 1 (w.range ∷ w.index ∷ [])
+write_fault w (Some g) ws = rise_fault w g ws
 
 -- the generations case of a record
 unfoldable pub generations_at : TraceRecord → History → Case

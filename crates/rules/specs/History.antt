@@ -1,6 +1,5 @@
 -- The records taken, newest first, and the ways of looking back at them.
-use Rattle.std.specs.Prelude.{Bool, true, false, cond, ◌||◌, List, [], ◌∷◌, ℕ, suc, length, eqb, ltb}
-use Rattle.std.proofs.Math.Option.{Option, none, some}
+use Rattle.std.specs.Prelude.{Bool, true, false, cond, ◌||◌, List, [], ◌∷◌, ℕ, suc, length, eqb, ltb, Option, None, Some}
 use Rattle.record.specs.declared.named.Node.{Node}
 use Rattle.record.specs.declared.named.Node.TheVariants.{Marked, Missing}
 use Rattle.record.specs.Records.{TraceRecord}
@@ -42,33 +41,33 @@ pub data Mem {A : Type 0} : A → List A → Type 0 where
 module _ {A : Type 0} where
   -- a, if the test holds
   abbrev pub when : Bool → A → Option A
-  when true a = some a
-  when false a = none
+  when true a = Some a
+  when false a = None
 
   -- the first of two, where there is one, else the second
   abbrev pub or_else : Option A → Option A → Option A
-  or_else (some a) b = some a
-  or_else none b = b
+  or_else (Some a) b = Some a
+  or_else None b = b
 
   abbrev pub is_some : Option A → Bool
-  is_some (some a) = true
-  is_some none = false
+  is_some (Some a) = true
+  is_some None = false
 
   -- there is a value, and it passes
   abbrev pub holds : (A → Bool) → Option A → Bool
-  holds p (some a) = p a
-  holds p none = false
+  holds p (Some a) = p a
+  holds p None = false
 
   -- what a value, where there is one, gives
   abbrev pub given : {B : Type 0} → (A → Option B) → Option A → Option B
-  given f (some a) = f a
-  given f none = none
+  given f (Some a) = f a
+  given f None = None
 
   -- what lasts, by the latest change: nothing before the first, nor after an end
   abbrev pub lasting : Option (Change A) → Option A
-  lasting none = none
-  lasting (some ends) = none
-  lasting (some (becomes a)) = some a
+  lasting None = None
+  lasting (Some ends) = None
+  lasting (Some (becomes a)) = Some a
 
   -- some element passes
   unfoldable pub any_of : (A → Bool) → List A → Bool
@@ -82,36 +81,36 @@ module _ {A : Type 0} where
 
   -- of a list that is newest first, the latest and the earliest element that pass
   unfoldable pub latest_of : (A → Bool) → List A → Option A
-  latest_of p [] = none
-  latest_of p (x ∷ xs) = cond (p x) (some x) (latest_of p xs)
+  latest_of p [] = None
+  latest_of p (x ∷ xs) = cond (p x) (Some x) (latest_of p xs)
 
   unfoldable pub earliest_of : (A → Bool) → List A → Option A
-  earliest_of p [] = none
+  earliest_of p [] = None
   earliest_of p (x ∷ xs) = or_else (earliest_of p xs) (when (p x) x)
 
   -- x for what was best, where its number is greater
   abbrev pub greater : (A → ℕ) → A → Option A → Option A
-  greater number x none = some x
-  greater number x (some y) = cond (ltb (number y) (number x)) (some x) (some y)
+  greater number x None = Some x
+  greater number x (Some y) = cond (ltb (number y) (number x)) (Some x) (Some y)
 
   -- the element with the greatest number among those that pass, the earliest among equals
   unfoldable pub greatest_of : (A → ℕ) → (A → Bool) → List A → Option A
-  greatest_of number p [] = none
+  greatest_of number p [] = None
   greatest_of number p (x ∷ xs) = cond (p x) (greater number x (greatest_of number p xs)) (greatest_of number p xs)
 
   -- x for what was best, where its number is lower
   abbrev pub lower : (A → ℕ) → A → Option A → Option A
-  lower number x none = some x
-  lower number x (some y) = cond (ltb (number x) (number y)) (some x) (some y)
+  lower number x None = Some x
+  lower number x (Some y) = cond (ltb (number x) (number y)) (Some x) (Some y)
 
   -- the element with the lowest number among those that pass, the earliest among equals
   unfoldable pub lowest_of : (A → ℕ) → (A → Bool) → List A → Option A
-  lowest_of number p [] = none
+  lowest_of number p [] = None
   lowest_of number p (x ∷ xs) = cond (p x) (lower number x (lowest_of number p xs)) (lowest_of number p xs)
 
   abbrev pub add_some : Option A → List A → List A
-  add_some none xs = xs
-  add_some (some x) xs = x ∷ xs
+  add_some None xs = xs
+  add_some (Some x) xs = x ∷ xs
 
   -- all that the records told, newest first
   unfoldable pub told : Tells A → History → List A
@@ -120,13 +119,13 @@ module _ {A : Type 0} where
 
   -- what was told latest
   unfoldable pub latest : Tells A → History → Option A
-  latest tells [] = none
+  latest tells [] = None
   latest tells (x ∷ h) = or_else (tells x h) (latest tells h)
 
   -- one more, unless one of the same is there
   abbrev pub add_first : (A → A → Bool) → Option A → List A → List A
-  add_first same none xs = xs
-  add_first same (some x) xs = cond (any_of (same x) xs) xs (x ∷ xs)
+  add_first same None xs = xs
+  add_first same (Some x) xs = cond (any_of (same x) xs) xs (x ∷ xs)
 
   -- what was told first of each, newest first: what a later record tells of the same does not count
   unfoldable pub firsts : (A → A → Bool) → Tells A → History → List A

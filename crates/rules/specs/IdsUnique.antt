@@ -1,6 +1,5 @@
 -- `IdsUnique`: the grants of ids, their blocks, and the ids check.
-use Rattle.std.specs.Prelude.{Bool, cond, not, ◌&&◌, List, [], ◌∷◌, ℕ, eqb, leb}
-use Rattle.std.proofs.Math.Option.{Option, none, some}
+use Rattle.std.specs.Prelude.{Bool, cond, not, ◌&&◌, List, [], ◌∷◌, ℕ, eqb, leb, Option, None, Some}
 use Rattle.record.specs.Records.{TraceRecord}
 use Rattle.rules.specs.declared.Case.{Case}
 use Rattle.rules.specs.History.{History, is_kind, when, any_of, those, firsts, latest_of, greatest_of}
@@ -55,8 +54,8 @@ first_fault g bs = cond (nonempty g) (fault_if (any_of (shares g) bs) (shared_fa
 
 -- a grant, by the first at its index: "Kind 1: a grant differs in (node, run, first, last) from the first at its index: index"
 abbrev pub grant_fault : Grant → Option Grant → List Grant → Case
-grant_fault g (some o) bs = fault_if (not (grant_eqb g o)) (fault 1 (g.index ∷ []))
-grant_fault g none bs = first_fault g bs
+grant_fault g (Some o) bs = fault_if (not (grant_eqb g o)) (fault 1 (g.index ∷ []))
+grant_fault g None bs = first_fault g bs
 
 -- the ids case of a record
 unfoldable pub ids_at : TraceRecord → History → Case

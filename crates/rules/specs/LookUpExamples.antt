@@ -1,6 +1,5 @@
 -- The look-ups' table: a trace in the order of time, a question about it, the answer.
-use Rattle.std.specs.Prelude.{cond, List, [], ◌∷◌, ◌++◌, map, reverse, ℕ}
-use Rattle.std.proofs.Math.Option.{Option, none, some}
+use Rattle.std.specs.Prelude.{cond, List, [], ◌∷◌, ◌++◌, map, reverse, ℕ, Option, None, Some}
 use Rattle.record.specs.Records.{TraceRecord}
 use Rattle.rules.specs.History.{History}
 use Rattle.rules.specs.Descriptors.{Entry, before, at, first_at_generation, statements, is_empty}
@@ -30,8 +29,8 @@ ask trace question answer = record { trace = trace; question = question; answer 
 
 -- "the number of the putting record, or none", which is 0 here
 abbrev number_of : Option Entry → ℕ
-number_of none = 0
-number_of (some v) = v.number
+number_of None = 0
+number_of (Some v) = v.number
 
 -- "three words a block (first, last, node)"
 unfoldable pub block_words : List Grant → List ℕ

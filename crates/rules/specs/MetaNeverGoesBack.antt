@@ -1,6 +1,5 @@
 -- `MetaNeverGoesBack`: the names that meta gives to keys, and the meta check.
-use Rattle.std.specs.Prelude.{◌≡◌, Bool, true, false, cond, not, ◌&&◌, ◌||◌, List, [], ◌∷◌, ℕ, length, ltb, leb}
-use Rattle.std.proofs.Math.Option.{Option, none, some}
+use Rattle.std.specs.Prelude.{◌≡◌, Bool, true, false, cond, not, ◌&&◌, ◌||◌, List, [], ◌∷◌, ℕ, length, ltb, leb, Option, None, Some}
 use Rattle.record.specs.Keys.{Key, key_ltb, key_eqb, list_eqb, inside, Lt, Le}
 use Rattle.record.specs.Records.{TraceRecord}
 use Rattle.rules.specs.declared.Case.{Case}
@@ -16,8 +15,8 @@ differs_from x v =
     not (key_eqb v.start (span_of 0 x).start) || not (key_eqb v.end (span_of 0 x).end) || not (list_eqb v.voters x.voters)
 
 abbrev pub named_fault : TraceRecord → Option Entry → Case
-named_fault x none = fault 1 ((meta_by x).range ∷ (meta_by x).generation ∷ (meta_by x).index ∷ [])
-named_fault x (some v) = fault_if (differs_from x v.held) (fault 2 ((meta_by x).range ∷ (meta_by x).generation ∷ (meta_by x).index ∷ []))
+named_fault x None = fault 1 ((meta_by x).range ∷ (meta_by x).generation ∷ (meta_by x).index ∷ [])
+named_fault x (Some v) = fault_if (differs_from x v.held) (fault 2 ((meta_by x).range ∷ (meta_by x).generation ∷ (meta_by x).index ∷ []))
 
 -- the name of the keys of a span: the record that won them, its generation and index
 pub record Name : Type 0 where
@@ -64,12 +63,12 @@ bounds [] = []
 bounds (n ∷ ns) = n.start ∷ n.end ∷ bounds ns
 
 abbrev pub lower_key : Key → Option Key → Option Key
-lower_key k none = some k
-lower_key k (some m) = some (cond (key_ltb m k) m k)
+lower_key k None = Some k
+lower_key k (Some m) = Some (cond (key_ltb m k) m k)
 
 -- the least key of a list that passes
 unfoldable pub least_key : (Key → Bool) → List Key → Option Key
-least_key p [] = none
+least_key p [] = None
 least_key p (k ∷ ks) = cond (p k) (lower_key k (least_key p ks)) (least_key p ks)
 
 -- "The walk stops at its first faulty piece, in key order": k is the least faulty key from s up to e, of all the keys that

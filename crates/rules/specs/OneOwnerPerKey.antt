@@ -1,6 +1,5 @@
 -- `OneOwnerPerKey`: what a node holds, and the checks overlap, install and twice.
-use Rattle.std.specs.Prelude.{Bool, cond, not, ◌&&◌, ◌||◌, List, [], ◌∷◌, ℕ, length, take, drop, eqb, leb}
-use Rattle.std.proofs.Math.Option.{Option, none, some}
+use Rattle.std.specs.Prelude.{Bool, cond, not, ◌&&◌, ◌||◌, List, [], ◌∷◌, ℕ, length, take, drop, eqb, leb, Option, None, Some}
 use Rattle.record.specs.declared.named.Node.{Node}
 use Rattle.record.specs.declared.named.Node.TheVariants.{Marked, Missing}
 use Rattle.record.specs.Keys.{Key, key_ltb}
@@ -30,8 +29,8 @@ is_ending range x = (is_kind 9 x && eqb (range_of x) range) || is_kind 6 x || is
 abbrev pub tells_hold : ℕ → ℕ → TraceRecord → History → Option (Change Span)
 tells_hold node range x h =
     cond (is_by node x)
-    (cond (is_holding x && eqb (range_of x) range) (some (becomes (span_of 0 x))) (when (is_ending range x) ends))
-    none
+    (cond (is_holding x && eqb (range_of x) range) (Some (becomes (span_of 0 x))) (when (is_ending range x) ends))
+    None
 
 -- the span over which a node holds a range, "the latest replacing"
 unfoldable pub hold_of : ℕ → ℕ → History → Option Span

@@ -1,6 +1,5 @@
 -- `OneOwnerPerKey`, the right half's clause: what a node owes after a split, and the half check.
-use Rattle.std.specs.Prelude.{Bool, true, false, cond, not, ◌&&◌, ◌||◌, List, [], ◌∷◌, map, ℕ, eqb, leb}
-use Rattle.std.proofs.Math.Option.{Option, none, some}
+use Rattle.std.specs.Prelude.{Bool, true, false, cond, not, ◌&&◌, ◌||◌, List, [], ◌∷◌, map, ℕ, eqb, leb, Option, None, Some}
 use Rattle.record.specs.declared.named.Node.{Node}
 use Rattle.record.specs.declared.named.Node.TheVariants.{Marked, Missing}
 use Rattle.record.specs.declared.named.ServerId.{ServerId}
@@ -21,8 +20,8 @@ abbrev pub tells_server : ℕ → TraceRecord → History → Option ServerId
 tells_server node x h = when (is_by node x && is_kind 4 x) (record { 0 = (recovered_by x).server })
 
 abbrev pub server_or : ℕ → Option ServerId → ServerId
-server_or node none = record { 0 = node }
-server_or node (some s) = s
+server_or node None = record { 0 = node }
+server_or node (Some s) = s
 
 unfoldable pub server_of : ℕ → History → ServerId
 server_of node h = server_or node (latest (tells_server node) h)
@@ -49,10 +48,10 @@ uses_up x p = is_kind 2 x && eqb (descriptor_by x).range p.parent && eqb (descri
 
 -- a node's own record: a RangeSplit is the new pending one; a refusal, a crash or its use ends the old one
 abbrev pub pending_next : TraceRecord → Option Pending → Option Pending
-pending_next x p = cond (is_kind 7 x) (some (pending_by x)) (cond (is_kind 6 x || is_kind 10 x || holds (uses_up x) p) none p)
+pending_next x p = cond (is_kind 7 x) (Some (pending_by x)) (cond (is_kind 6 x || is_kind 10 x || holds (uses_up x) p) None p)
 
 unfoldable pub pending : ℕ → History → Option Pending
-pending node [] = none
+pending node [] = None
 pending node (x ∷ h) = cond (is_by node x) (pending_next x (pending node h)) (pending node h)
 
 -- a split "(parent, index) registers once, with right range and voters"
@@ -70,11 +69,11 @@ created_split x =
 
 -- "or by kind 2 at the range and index of the node's pending RangeSplit"
 abbrev pub pending_split : TraceRecord → Option Pending → Option Registered
-pending_split x none = none
-pending_split x (some p) = when (uses_up x p) (record { parent = p.parent; index = p.index; right = p.right; voters = x.voters })
+pending_split x None = None
+pending_split x (Some p) = when (uses_up x p) (record { parent = p.parent; index = p.index; right = p.right; voters = x.voters })
 
 abbrev pub split_by : TraceRecord → History → Node → Option Registered
-split_by x h Missing = none
+split_by x h Missing = None
 split_by x h (Marked n) = or_else (created_split x) (pending_split x (pending n.0 h))
 
 abbrev pub tells_split : TraceRecord → History → Option Registered
@@ -104,9 +103,9 @@ registers x h = given (unless_known h) (tells_split x h)
 abbrev pub tells_recorded : ℕ → ℕ → TraceRecord → History → Option (Change ℕ)
 tells_recorded node range x h =
     cond (is_by node x)
-    (cond (is_kind 2 x && eqb (descriptor_by x).range range && not (is_restated node h)) (some (becomes (descriptor_by x).applied))
+    (cond (is_kind 2 x && eqb (descriptor_by x).range range && not (is_restated node h)) (Some (becomes (descriptor_by x).applied))
     (when (is_kind 10 x) ends))
-    none
+    None
 
 unfoldable pub recorded : ℕ → ℕ → History → Option ℕ
 recorded node range h = lasting (latest (tells_recorded node range) h)
@@ -131,7 +130,7 @@ applied_by_registering node parent index x h = holds (λ s. is_split parent inde
 -- "RaftRefused drops debts, applied splits, .."
 abbrev pub tells_applies : ℕ → ℕ → ℕ → TraceRecord → History → Option Bool
 tells_applies node parent index x h =
-    cond (applies node parent index x h || applied_by_registering node parent index x h) (some true)
+    cond (applies node parent index x h || applied_by_registering node parent index x h) (Some true)
     (when (is_by node x && is_kind 10 x) false)
 
 -- a node has applied a split
@@ -165,7 +164,7 @@ abbrev pub cancels : ℕ → ℕ → TraceRecord → Bool
 cancels node right x = is_by node x && ((is_kind 9 x && eqb (range_of x) right) || is_kind 10 x)
 
 abbrev pub tells_debt : ℕ → ℕ → TraceRecord → History → Option (Change Registered)
-tells_debt node right x h = cond (cancels node right x) (some ends) (given (λ s. some (becomes s)) (debt_at node right x h))
+tells_debt node right x h = cond (cancels node right x) (Some ends) (given (λ s. Some (becomes s)) (debt_at node right x h))
 
 -- what a node owes, and by which split: "it owes the right range, the latest debt replacing"
 unfoldable pub owes : ℕ → ℕ → History → Option Registered
@@ -189,8 +188,8 @@ missing_fault kind node h =
 
 -- the nodes that records are marked with
 abbrev pub node_number : Node → Option ℕ
-node_number Missing = none
-node_number (Marked n) = some n.0
+node_number Missing = None
+node_number (Marked n) = Some n.0
 
 unfoldable pub nodes_of : History → List ℕ
 nodes_of h = told (λ x _. node_number x.node) h

@@ -4,7 +4,7 @@ use mathlib.Core.Path.{◌≡◌, refl, sym, ap, ◌∙◌}
 use mathlib.Core.Bool.{Bool, true, false, cond, not}
 use mathlib.Core.List.{List, ◌∷◌}
 use mathlib.Core.Logic.{inl, inr}
-use mathlib.Core.Option.{none, some}
+use Rattle.std.specs.Prelude.{None, Some}
 use Prim.Native.Nat.{ℕ, ◌+◌, ◌*◌, ◌≤◌, ◌<◌}
 use native.Mathlib.Omega.{arith}
 use native.Mathlib.Decide.{ℕ_discrete}
@@ -78,7 +78,7 @@ module _ {t : Bool} {work work' : List ℕ} {heads links n b : ℕ} (w : Entered
       ]
 
 split_cases : (cap m : ℕ) (log : List ℕ) (x : TraceRecord) (t : Bool)
-    → given (λ s. some (split_bucket cap s.parent s.index)) (cond t none (some (split_with log x m))) ≡ when (not t) (split_bucket cap (parent_by x) x.b)
+    → given (λ s. Some (split_bucket cap s.parent s.index)) (cond t None (Some (split_with log x m))) ≡ when (not t) (split_bucket cap (parent_by x) x.b)
 split_cases cap m log x true = refl
 split_cases cap m log x false = refl
 
@@ -87,7 +87,7 @@ in_splits : (cap : ℕ) (log : List ℕ) (x : TraceRecord) (n : ℕ) {m : ℕ} �
     → by_split cap x (hist log n) ≡ when (not (eqb m 0)) (split_bucket cap (parent_by x) x.b)
 unfolding by_split
 in_splits cap log x n {m} e =
-    ap (given (λ s. some (split_bucket cap s.parent s.index))) (registers_as_lem log x n ∙ ap (split_as log x) (sym e)) ∙ split_cases cap m log x (eqb m 0)
+    ap (given (λ s. Some (split_bucket cap s.parent s.index))) (registers_as_lem log x n ∙ ap (split_as log x) (sym e)) ∙ split_cases cap m log x (eqb m 0)
 
 in_recordings : (cap : ℕ) (x : TraceRecord) (h : History) {t : Bool} → t ≡ records_by x h x.node → by_recording cap x h ≡ when t (recorded_bucket cap x.a)
 unfolding by_recording

@@ -4,7 +4,8 @@ use mathlib.Core.Path.{◌≡◌, refl, sym, ap, ◌∙◌}
 use mathlib.Core.Bool.{Bool, true, false, cond, not}
 use mathlib.Core.List.{List}
 use mathlib.Core.Logic.{inl, inr}
-use mathlib.Core.Option.{Option, none, some, some_inj}
+use Rattle.std.proofs.lemmas.Option.{same_Some}
+use Rattle.std.specs.Prelude.{Option, None, Some}
 use Prim.Native.Nat.{ℕ, zero, suc, ◌≤◌, ◌<◌}
 use native.Mathlib.Omega.{arith}
 use native.Mathlib.Decide.{ℕ_discrete}
@@ -33,7 +34,7 @@ use Rattle.splits.proofs.Splits.{unless_named, named_is, registers_as_lem}
 pub record RegisteredAt (log : List ℕ) (n : ℕ) (s : Registered) : Type 0 where
   pub at : ℕ
   pub before : at < n
-  pub is : registers (record_at log at) (hist log at) ≡ some s
+  pub is : registers (record_at log at) (hist log at) ≡ Some s
 
 pub registered_place : (log : List ℕ) (n : ℕ) {s : Registered} → Mem s (registered (hist log n)) → RegisteredAt log n s
 registered_place log zero m = mem_nil (rw (hist_none, registered_nil) at m)
@@ -43,19 +44,19 @@ registered_place log (suc n) m =
       | inr k ↦ let w = registered_place log n k in record { at = w.at; before = omega (arith, w.before); is = w.is }
     ]
 
-pub place_registered : (log : List ℕ) (n t : ℕ) {s : Registered} → t < n → registers (record_at log t) (hist log t) ≡ some s → Mem s (registered (hist log n))
+pub place_registered : (log : List ℕ) (n t : ℕ) {s : Registered} → t < n → registers (record_at log t) (hist log t) ≡ Some s → Mem s (registered (hist log n))
 place_registered log zero t l e = absurd (omega arith)
 place_registered log (suc n) t {s} l e =
     elim (ℕ_discrete t n) [
       | yes q ↦
-          let d : registers (record_at log n) (hist log n) ≡ some s = ap (λ (k : ℕ). registers (record_at log k) (hist log k)) (sym q) ∙ e in
+          let d : registers (record_at log n) (hist log n) ≡ Some s = ap (λ (k : ℕ). registers (record_at log k) (hist log k)) (sym q) ∙ e in
           rw (hist_suc, registered_step, d) here
       | no q ↦ rw (hist_suc, registered_step) (add_mem (registers (record_at log n) (hist log n)) (place_registered log n t (omega arith) e))
     ]
 
 -- ---- as it is read
 
-some_as : (log : List ℕ) (x : TraceRecord) (m : ℕ) (t : Bool) → is_some (cond t none (some (split_with log x m))) ≡ not t
+some_as : (log : List ℕ) (x : TraceRecord) (m : ℕ) (t : Bool) → is_some (cond t None (Some (split_with log x m))) ≡ not t
 some_as log x m true = refl
 some_as log x m false = refl
 
@@ -65,19 +66,19 @@ registering_is log x n =
     ap is_some (registers_as_lem log x n) ∙ some_as log x (named_number x (hist log n)) (eqb (named_number x (hist log n)) 0)
 
 -- its parent, index and voters are those of the record
-as_cases : (log : List ℕ) (y : TraceRecord) (m : ℕ) (t : Bool) (s : Registered) → cond t none (some (split_with log y m)) ≡ some s → split_with log y m ≡ s
+as_cases : (log : List ℕ) (y : TraceRecord) (m : ℕ) (t : Bool) (s : Registered) → cond t None (Some (split_with log y m)) ≡ Some s → split_with log y m ≡ s
 as_cases log y m true s e = none_some e
-as_cases log y m false s e = some_inj.0 e
+as_cases log y m false s e = same_Some _ _ e
 
-pub split_is : (log : List ℕ) (y : TraceRecord) (t : ℕ) (s : Registered) → registers y (hist log t) ≡ some s
+pub split_is : (log : List ℕ) (y : TraceRecord) (t : ℕ) (s : Registered) → registers y (hist log t) ≡ Some s
     → split_with log y (named_number y (hist log t)) ≡ s
 split_is log y t s e =
     as_cases log y (named_number y (hist log t)) (eqb (named_number y (hist log t)) 0) s (sym (registers_as_lem log y t) ∙ e)
 
 -- an answer that is there
-pub some_split : (o : Option Registered) → is_some o ≡ true → (s : Registered) × (o ≡ some s)
-some_split none e = never e refl
-some_split (some s) e = (s, refl)
+pub some_split : (o : Option Registered) → is_some o ≡ true → (s : Registered) × (o ≡ Some s)
+some_split None e = never e refl
+some_split (Some s) e = (s, refl)
 
 -- ---- the right range of a registering record's split
 
@@ -117,7 +118,7 @@ range_of log t n l e w = (omega (arith, w.0), omega (arith, w.1))
 -- ---- what the code makes of it: m names the split of x
 
 module _ (log : List ℕ) (n : ℕ) (x : TraceRecord) {m : ℕ} (e : m ≡ named_number x (hist log n)) (some_named : m ≡ 0 → ⊥) where
-  pub named_split : registers x (hist log n) ≡ some (split_with log x m)
+  pub named_split : registers x (hist log n) ≡ Some (split_with log x m)
   named_split = registers_as_lem log x n ∙ rw (← e, ne_eqb m 0 some_named)
 
   pub right_range : is_kind 1 x ≡ false → (0 < m) × (m ≤ n)

@@ -2,7 +2,7 @@
 use mathlib.Core.Path.{◌≡◌, refl, sym, ap, ◌∙◌}
 use mathlib.Core.Bool.{Bool, true, false, cond, not, ◌&&◌, ◌||◌}
 use mathlib.Core.List.{List, [], ◌∷◌}
-use mathlib.Core.Option.{Option, none, some}
+use Rattle.std.specs.Prelude.{Option, None, Some}
 use Prim.Native.Nat.{ℕ, suc, ◌+◌, ◌-◌, ◌≤◌, ◌<◌}
 use native.Mathlib.Omega.{arith}
 use native.Mathlib.Numerals.{add-one}
@@ -100,8 +100,8 @@ module _ (log : List ℕ) (x : TraceRecord) where
   uses_cases k false e z = refl
 
   pending_cases : (k : ℕ) (t : Bool) → eqb k 0 ≡ t
-      → pending_split x (cond t none (some (pending_by (record_at log (k - 1)))))
-      ≡ split_as log x (cond (is_some (pending_split x (cond t none (some (pending_by (record_at log (k - 1))))))) k 0)
+      → pending_split x (cond t None (Some (pending_by (record_at log (k - 1)))))
+      ≡ split_as log x (cond (is_some (pending_split x (cond t None (Some (pending_by (record_at log (k - 1))))))) k 0)
   pending_cases k true e = refl
   pending_cases k false e = uses_cases k (uses_up x (pending_by (record_at log (k - 1)))) refl e
 
@@ -143,8 +143,8 @@ module _ (log : List ℕ) (x : TraceRecord) where
   unless_named m known = cond (eqb m 0) 0 (cond known 0 m)
 
   known_cases : (h : History) (m : ℕ) (t k : Bool) → eqb m 0 ≡ t → is_registered (parent_by x) x.b h ≡ k
-      → (given (unless_known h) (cond t none (some (split_with log x m))) ≡ split_as log x (cond t 0 (cond k 0 m)))
-      × (cond (is_some (given (unless_known h) (cond t none (some (split_with log x m))))) m 0 ≡ cond t 0 (cond k 0 m))
+      → (given (unless_known h) (cond t None (Some (split_with log x m))) ≡ split_as log x (cond t 0 (cond k 0 m)))
+      × (cond (is_some (given (unless_known h) (cond t None (Some (split_with log x m))))) m 0 ≡ cond t 0 (cond k 0 m))
   known_cases h m true k e f = (refl, refl)
   known_cases h m false true e f = (rw f, rw f)
   known_cases h m false false e f = (rw (f, e), rw f)
@@ -171,8 +171,8 @@ module _ (parent index : ℕ) where
   any_add : (o : Option Registered) (ss : List Registered)
       → any_of (is_split parent index) (add_some o ss) ≡ holds (is_split parent index) o || any_of (is_split parent index) ss
   unfolding any_of
-  any_add none ss = refl
-  any_add (some s) ss = refl
+  any_add None ss = refl
+  any_add (Some s) ss = refl
 
   known_step : (b : Bool) (n k : ℕ) → b || not (eqb k 0) ≡ not (eqb (cond b (suc n) k) 0)
   known_step true n k = rw eqb-suc-zero
@@ -191,9 +191,9 @@ module _ (parent index : ℕ) where
 
   -- the chain has all that registers it
   as_cases : (cap : ℕ) (o : Option Registered) → holds (is_split parent index) o ≡ true
-      → given (λ s. some (split_bucket cap s.parent s.index)) o ≡ some (split_bucket cap parent index)
-  as_cases cap none e = never e refl
-  as_cases cap (some s) e =
+      → given (λ s. Some (split_bucket cap s.parent s.index)) o ≡ Some (split_bucket cap parent index)
+  as_cases cap None e = never e refl
+  as_cases cap (Some s) e =
       rw (eqb-true s.parent parent (and_left _ (eqb s.index index) e), eqb-true s.index index (and_right (eqb s.parent parent) _ e))
 
   pub by_split_lem : (cap : ℕ) → Within (registers_as parent index) (by_split cap) (split_bucket cap parent index)
@@ -202,8 +202,8 @@ module _ (parent index : ℕ) where
 
   -- a record of the chain registers, so its parent and index say whether it registers this
   test_cases : (cap b : ℕ) (log : List ℕ) (y : TraceRecord) (m : ℕ) (t : Bool) → eqb m 0 ≡ t
-      → given (λ s. some (split_bucket cap s.parent s.index)) (cond t none (some (split_with log y m))) ≡ some b
-      → eqb (parent_by y) parent && eqb y.b index ≡ holds (is_split parent index) (cond t none (some (split_with log y m)))
+      → given (λ s. Some (split_bucket cap s.parent s.index)) (cond t None (Some (split_with log y m))) ≡ Some b
+      → eqb (parent_by y) parent && eqb y.b index ≡ holds (is_split parent index) (cond t None (Some (split_with log y m)))
   test_cases cap b log y m true e h = let z : ◌≡◌ {A = ℕ} 0 1 = cc in absurd (omega arith)
   test_cases cap b log y m false e h = refl
 
@@ -212,8 +212,8 @@ module _ (parent index : ℕ) where
   unfolding by_split
   split_test cap {b} log k h =
       let m = named_number (record_at log k) (hist log k) in
-      let q : given (λ s. some (split_bucket cap s.parent s.index)) (split_as log (record_at log k) m) ≡ some b =
-      ap (given (λ s. some (split_bucket cap s.parent s.index))) (sym (registers_as_lem log (record_at log k) k)) ∙ h in
+      let q : given (λ s. Some (split_bucket cap s.parent s.index)) (split_as log (record_at log k) m) ≡ Some b =
+      ap (given (λ s. Some (split_bucket cap s.parent s.index))) (sym (registers_as_lem log (record_at log k) k)) ∙ h in
       test_cases cap b log (record_at log k) m (eqb m 0) refl q ∙ ap (holds (is_split parent index)) (sym (registers_as_lem log (record_at log k) k))
 
 -- ---- what the code makes of them: m names the split of x, k registered one of its parent and index

@@ -3,7 +3,7 @@
 use mathlib.Core.Path.{◌≡◌, refl, sym, ap, ◌∙◌}
 use mathlib.Core.Bool.{Bool, true, false, cond, not, ◌&&◌, ◌||◌}
 use mathlib.Core.List.{List, [], ◌∷◌}
-use mathlib.Core.Option.{Option, none, some}
+use Rattle.std.specs.Prelude.{Option, None, Some}
 use Prim.Native.Nat.{ℕ, zero, suc, ◌+◌, ◌-◌, ◌*◌, ◌≤◌, ◌<◌}
 use native.Mathlib.Omega.{arith}
 use native.Mathlib.Decide.{ℕ_discrete}
@@ -187,10 +187,10 @@ restated_mark node (x ∷ h) =
 
 -- the pending RangeSplit is that of the record with its number
 abbrev pub pending_as : List ℕ → ℕ → Option Pending
-pending_as log k = cond (eqb k 0) none (some (pending_by (record_at log (k - 1))))
+pending_as log k = cond (eqb k 0) None (Some (pending_by (record_at log (k - 1))))
 
 pending_cases : (log : List ℕ) (b u v : Bool) (n k : ℕ) (p : Option Pending) → p ≡ pending_as log k
-    → cond b (cond u (some (pending_by (record_at log n))) (cond v none p)) p ≡ pending_as log (cond b (cond u (suc n) (cond v 0 k)) k)
+    → cond b (cond u (Some (pending_by (record_at log n))) (cond v None p)) p ≡ pending_as log (cond b (cond u (suc n) (cond v 0 k)) k)
 pending_cases log true true v n k p e = let q : suc n - 1 ≡ n = omega arith in rw (eqb-suc-zero, q)
 pending_cases log true false true n k p e = refl
 pending_cases log true false false n k p e = e

@@ -1,6 +1,5 @@
 -- The columns of nodes and splits in the work area, each word a written function of the history, and what a note promises of them.
-use Rattle.std.specs.Prelude.{◌≡◌, Bool, true, false, cond, not, ◌&&◌, List, ◌∷◌, ℕ, ◌+◌, ◌-◌, ◌*◌, ◌/◌, ◌%◌, ◌≤◌, ◌<◌, length, get_or, eqb}
-use Rattle.std.proofs.Math.Option.{some}
+use Rattle.std.specs.Prelude.{◌≡◌, Bool, true, false, cond, not, ◌&&◌, List, ◌∷◌, ℕ, ◌+◌, ◌-◌, ◌*◌, ◌/◌, ◌%◌, ◌≤◌, ◌<◌, length, get_or, eqb, Some}
 use Rattle.record.specs.declared.named.Node.{Node}
 use Rattle.record.specs.declared.named.Node.TheVariants.{Marked, Missing}
 use Rattle.record.specs.Records.{TraceRecord}
@@ -21,7 +20,7 @@ abbrev pub split_bucket : ℕ → ℕ → ℕ → ℕ
 split_bucket cap parent index = bucket cap (mix_after (mix parent) index)
 
 unfoldable pub by_split : ℕ → Tells ℕ
-by_split cap x h = given (λ s. some (split_bucket cap s.parent s.index)) (registers x h)
+by_split cap x h = given (λ s. Some (split_bucket cap s.parent s.index)) (registers x h)
 
 -- the kind 2 records that record an index, by range
 abbrev pub recorded_bucket : ℕ → ℕ → ℕ

@@ -1,6 +1,5 @@
 -- The split that a record registers, as the code reads it: from the record itself and the record that names its right range.
-use Rattle.std.specs.Prelude.{cond, List, ℕ, ◌-◌, eqb}
-use Rattle.std.proofs.Math.Option.{Option, none, some}
+use Rattle.std.specs.Prelude.{cond, List, ℕ, ◌-◌, eqb, Option, None, Some}
 use Rattle.record.specs.Records.{TraceRecord}
 use Rattle.rules.specs.History.{is_kind}
 use Rattle.rules.specs.RightHalf.{Registered}
@@ -19,4 +18,4 @@ split_with log y m = record { parent = parent_by y; index = y.b; right = right_b
 
 -- .. where it is named
 abbrev pub split_as : List ℕ → TraceRecord → ℕ → Option Registered
-split_as log y m = cond (eqb m 0) none (some (split_with log y m))
+split_as log y m = cond (eqb m 0) None (Some (split_with log y m))

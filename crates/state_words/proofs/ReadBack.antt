@@ -3,7 +3,7 @@
 use mathlib.Core.Path.{◌≡◌, refl, sym, ap, ◌∙◌, subst}
 use mathlib.Core.Bool.{Bool, true, cond, ◌&&◌}
 use mathlib.Core.List.{List, [], ◌∷◌, map}
-use mathlib.Core.Option.{none, some}
+use Rattle.std.specs.Prelude.{None, Some}
 use Prim.Native.Nat.{ℕ, zero, suc, ◌*◌, ◌≤◌, ◌<◌}
 use native.Mathlib.Omega.{arith}
 use lib.ListN.{length, get_or, replicate}
@@ -57,8 +57,8 @@ module _ (j : Judge) (r : Readable j) where
   words_state = both (eq-eqb (length (state_words j)) state_size words_many) (fit_kinds (state_words j) header_size words_fit)
 
   -- a judge's words are a state, and its judge is that judge
-  pub state_back : state_in (state_words j) ≡ some j
-  state_back = λ i. cond (words_state i) (some (judge_back i)) none
+  pub state_back : state_in (state_words j) ≡ Some j
+  state_back = λ i. cond (words_state i) (Some (judge_back i)) None
 
 -- ---- the reports of a history
 
@@ -101,7 +101,7 @@ readable j o h e = record {
 -- ---- the words
 
 -- the words of a judge that has taken any records are a state, and that judge's
-pub state_after : (h : History) (s : State) → After Indexed h s → state_in (state_words s.judge) ≡ some s.judge
+pub state_after : (h : History) (s : State) → After Indexed h s → state_in (state_words s.judge) ≡ Some s.judge
 state_after h s a = state_back s.judge (readable s.judge s.judge.opening h a.reports)
 
 none_reported : (o : Opening) → replicate check_count passed ≡ reports_of o []
@@ -109,5 +109,5 @@ unfolding reports_of report_of
 none_reported o = refl
 
 -- and so are those of an opened judge, refused or not
-pub state_fresh : (c : ℕ) (o : Opening) → state_in (state_words (fresh_of c o)) ≡ some (fresh_of c o)
+pub state_fresh : (c : ℕ) (o : Opening) → state_in (state_words (fresh_of c o)) ≡ Some (fresh_of c o)
 state_fresh c o = state_back (fresh_of c o) (readable (fresh_of c o) o [] (none_reported o))

@@ -2,7 +2,7 @@
 use mathlib.Core.Path.{◌≡◌, refl, sym, ap, ◌∙◌}
 use mathlib.Core.Bool.{Bool, true, false, cond, ◌&&◌}
 use mathlib.Core.List.{List, ◌∷◌}
-use mathlib.Core.Option.{none, some}
+use Rattle.std.specs.Prelude.{None, Some}
 use Prim.Native.Nat.{ℕ, ◌*◌}
 use native.Mathlib.Omega.{arith}
 use lib.ListN.{length, get_or, drop, set}
@@ -74,30 +74,30 @@ unfolding is_state
 state_kinds words e = sym (ap (λ (b : Bool). b && kinds_fit words header_size) (eq-eqb (length words) state_size e))
 
 module _ (words : List ℕ) where
-  fit_by : {j : Judge} (b : Bool) → b ≡ true → cond b (some (judge_in words)) none ≡ some j → judge_in words ≡ j
+  fit_by : {j : Judge} (b : Bool) → b ≡ true → cond b (Some (judge_in words)) None ≡ Some j → judge_in words ≡ j
   fit_by true t e = cc
   fit_by false t e = never t refl
 
   -- what a passed test says of the state's judge
-  pub fit_of : {j : Judge} → is_state words ≡ true → state_in words ≡ some j → judge_in words ≡ j
+  pub fit_of : {j : Judge} → is_state words ≡ true → state_in words ≡ Some j → judge_in words ≡ j
   fit_of t e = fit_by (is_state words) t e
 
-  some_by : {j : Judge} (b : Bool) → cond b (some (judge_in words)) none ≡ some j → b ≡ true
+  some_by : {j : Judge} (b : Bool) → cond b (Some (judge_in words)) None ≡ Some j → b ≡ true
   some_by true e = refl
   some_by false e = absurd (let z : ◌≡◌ {A = ℕ} 0 1 = cc in omega arith)
 
-  pub some_state : {j : Judge} → state_in words ≡ some j → is_state words ≡ true
+  pub some_state : {j : Judge} → state_in words ≡ Some j → is_state words ≡ true
   some_state e = some_by (is_state words) e
 
-  none_by : (b : Bool) → cond b (some (judge_in words)) none ≡ none → b ≡ false
+  none_by : (b : Bool) → cond b (Some (judge_in words)) None ≡ None → b ≡ false
   none_by true e = absurd (let z : ◌≡◌ {A = ℕ} 0 1 = cc in omega arith)
   none_by false e = refl
 
-  pub none_state : state_in words ≡ none → is_state words ≡ false
+  pub none_state : state_in words ≡ None → is_state words ≡ false
   none_state e = none_by (is_state words) e
 
 -- a state is the words of its judge
-pub state_words_lem : (words : List ℕ) (j : Judge) → state_in words ≡ some j → words ≡ state_words j
+pub state_words_lem : (words : List ℕ) (j : Judge) → state_in words ≡ Some j → words ≡ state_words j
 state_words_lem words j e =
     let t = some_state words e in
     words_read words (state_facts words t).size ∙ ap state_words (fit_of words t e)

@@ -1,6 +1,5 @@
 -- A judge as the words that a host keeps between calls, a header and the rows of its reports, and the way back.
-use Rattle.std.specs.Prelude.{◌≡◌, Bool, cond, ◌&&◌, List, ◌∷◌, ℕ, ◌+◌, length, get_or, eqb}
-use Rattle.std.proofs.Math.Option.{Option, none, some}
+use Rattle.std.specs.Prelude.{◌≡◌, Bool, cond, ◌&&◌, List, ◌∷◌, ℕ, ◌+◌, length, get_or, eqb, Option, None, Some}
 use Rattle.rows.specs.Rows.{rows_size, rows_of, reports_in, KindsFit, kinds_fit}
 use Rattle.judge.specs.declared.state.Judge.{Judge}
 
@@ -32,7 +31,7 @@ is_state words = eqb (length words) state_size && kinds_fit words header_size
 
 -- the judge of a state; other words have none
 abbrev pub state_in : List ℕ → Option Judge
-state_in words = cond (is_state words) (some (judge_in words)) none
+state_in words = cond (is_state words) (Some (judge_in words)) None
 
 -- the same as facts
 pub record IsState (words : List ℕ) : Type 0 where

@@ -1,5 +1,5 @@
 -- None is replaced, and else the one at the place unless the best so far is below it.
-use mathlib.Core.Option.{some}
+use Rattle.std.specs.Prelude.{Some}
 use native.Mathlib.Omega.{arith}
 use Rattle.history.specs.Weighing.{lower_of}
 use Rattle.history.proofs.Queries.{lower_none}
@@ -12,7 +12,7 @@ returns-then-not-passes c = let a = c.args in (rw c.if-not-passes.true, λ n p q
 pub returns-then-best-eq0 : goal.returns-then-best-eq0
 returns-then-best-eq0 c = let a = c.args in (
   weigh_first a.log.now a.best a.i a.passes (lower_of (λ v. v.index))
-      (λ v. lower_none (λ w. w.index) (some v)) c.if-not-passes.false c.if-best-eq0.true,
+      (λ v. lower_none (λ w. w.index) (Some v)) c.if-not-passes.false c.if-best-eq0.true,
   λ n p q. omega arith,
 )
 
