@@ -13,8 +13,7 @@ use Rattle.record.specs.declared.named.ApplyEffect.TheVariants.{Took}
 use Rattle.record.specs.Records.{TraceRecord}
 use Rattle.rules.specs.History.{is_kind, is_by, when, given, is_some, holds, any_of, or_else}
 use Rattle.rules.specs.GenerationsRise.{has_effect}
-use Rattle.rules.specs.RightHalf.{Registered, server_of, is_restated, is_split, registered, has_applied, reaches, is_voter, own_debt, owes_by_registering}
-use Rattle.rules.specs.RightHalf.{registering_debt, cancels, debt_at, owes}
+use Rattle.rules.specs.RightHalf.{Registered, server_of, is_restated, is_split, registered, has_applied, reaches, is_voter, own_debt, owes_by_registering, registering_debt, cancels, debt_at, owes}
 use Rattle.record.proofs.Booleans.{never, and_left, and_right, both, none_some}
 use Rattle.rules.proofs.Members.{Mem, any_of_none}
 use Rattle.rules.proofs.Candidates.{holds_some}
@@ -29,8 +28,7 @@ use Rattle.one_owner_per_key.proofs.Latest.{number_bound, number_is, number_over
 use Rattle.splits.specs.Numbers.{is_registering, latest_registering, registers_as, split_number, named_number}
 use Rattle.splits.specs.Splits.{parent_by, right_by, split_with}
 use Rattle.debts.specs.Walk.{owes_first}
-use Rattle.debts.specs.Debts.{placed_split, split_at, Numbered, is_right, has_voter, is_applied, is_covered, applied_split, covered_split, first_split}
-use Rattle.debts.specs.Debts.{is_above}
+use Rattle.debts.specs.Debts.{placed_split, split_at, Numbered, is_right, has_voter, is_applied, is_covered, applied_split, covered_split, first_split, is_above}
 use Rattle.splits.proofs.Splits.{registers_as_lem, known_is}
 use Rattle.splits.proofs.Registered.{registered_place, place_registered, split_is, named_split}
 use Rattle.debts.proofs.Owing.{first_debt, first_early}

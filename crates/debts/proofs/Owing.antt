@@ -11,8 +11,7 @@ use lib.Dec.{eqb, leb, ltb}
 use borrow.Author.Tests.{ltb-true, lt-ltb, le-ltb, le-leb, leb-true}
 use Rattle.record.specs.Records.{TraceRecord}
 use Rattle.rules.specs.History.{History, becomes, ends, lasting, is_kind, is_by, when, or_else, is_some, holds, latest}
-use Rattle.rules.specs.RightHalf.{Registered, is_restated, is_registered, registers, tells_recorded, recorded, reaches, has_applied, is_voter, cancels, debt_at}
-use Rattle.rules.specs.RightHalf.{owes}
+use Rattle.rules.specs.RightHalf.{Registered, is_restated, is_registered, registers, tells_recorded, recorded, reaches, has_applied, is_voter, cancels, debt_at, owes}
 use Rattle.record.proofs.Booleans.{never, and_left, and_right, both, or_cases, or_left, or_right}
 use Rattle.rules.proofs.Marks.{kind_apart}
 use Rattle.rules.proofs.Debts.{owes_nil, owes_cancelled, owes_arises, owes_kept}

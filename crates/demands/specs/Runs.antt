@@ -1,6 +1,6 @@
 -- The third demand's words: a list of calls, and the claim about what it leaves.
 use Rattle.std.specs.Prelude.{◌≡◌, true, List, [], ◌∷◌, ℕ, ◌<◌, get_or}
-use Rattle.rules.specs.declared.Case.{Case}
+use Rattle.rules.specs.Cases.{Case}
 use Rattle.rules.specs.declared.Opening.{Opening}
 use Rattle.rules.specs.declared.Report.{Report}
 use Rattle.rules.specs.declared.Verdict.TheVariants.{Faulted}

@@ -11,12 +11,9 @@ use lib.Dec.{eqb, ltb, leb}
 use borrow.Author.Tests.{lt-ltb, le-ltb, le-leb, lt-leb, eq-eqb, ne_eqb, ltb-true, ltb-false, leb-true, eqb-true, eqb-false, not-true}
 use Rattle.record.specs.Records.{TraceRecord}
 use Rattle.record.proofs.Booleans.{decide, never, and_left, and_right}
-use Rattle.rules.specs.declared.Case.{Case}
-use Rattle.rules.specs.declared.Case.TheVariants.{Clear}
+use Rattle.rules.specs.Cases.{Case, is_fault, fault, case_of}
 use Rattle.rules.specs.History.{History, holds, is_some, any_of, earliest_of, greater, lowest_of}
-use Rattle.rules.specs.Cases.{is_fault, fault, case_of}
-use Rattle.rules.specs.Descriptors.{Entry, puts, role_of, entry_at, same_place, standing, stated, at_in, held_eqb, ahead_fault, differs_fault, statement_fault}
-use Rattle.rules.specs.Descriptors.{agreement}
+use Rattle.rules.specs.Descriptors.{Entry, puts, role_of, entry_at, same_place, standing, stated, at_in, held_eqb, ahead_fault, differs_fault, statement_fault, agreement}
 use Rattle.rules.proofs.Same.{held_same}
 use Rattle.rules.proofs.Tellings.{none_of}
 use Rattle.rules.proofs.Members.{Mem, here, any_of_mem}
@@ -47,7 +44,7 @@ behind true b c x f k g = rw (f refl) (sym (and-false (not x)))
 behind false true c x f k g = rw (g k)
 behind false false c x f k g = never refl k
 
-not_clear : (c : Case) → c ≡ Clear → is_fault c ≡ false
+not_clear : (c : Case) → c ≡ None → is_fault c ≡ false
 not_clear c e = ap is_fault e
 
 equal_ltb : {m n : ℕ} → m ≡ n → ltb m n ≡ false
@@ -59,8 +56,8 @@ is_none o n e f = never (ap is_some e) f
 holds_some : (t : Entry → Bool) (o : Option Entry) (n : Entry) → o ≡ Some n → holds t o ≡ t n
 holds_some t o n e = ap (holds t) e
 
-module _ (p : Entry) (vs : List Entry) (s : Entry) (k : statement_fault vs s ≡ Clear) (r : s.range ≡ p.range) where
-  old : case_of (fault_by s (ahead_fault s vs)) (at_in s.range s.index vs) ≡ Clear
+module _ (p : Entry) (vs : List Entry) (s : Entry) (k : statement_fault vs s ≡ None) (r : s.range ≡ p.range) where
+  old : case_of (fault_by s (ahead_fault s vs)) (at_in s.range s.index vs) ≡ None
   old = sym (statement_by vs s) ∙ k
 
   -- ---- a statement below the new value
@@ -98,7 +95,7 @@ module _ (p : Entry) (vs : List Entry) (s : Entry) (k : statement_fault vs s ≡
         ahead_pass p vs s
         (rw (ne_eqb p.held.generation s.held.generation (λ e. n (sym e))) (and-false (eqb p.range s.range && ltb s.index p.index)))
 
-    behind_go : (o : Option Entry) → case_of (fault_by s (ahead_fault s vs)) o ≡ Clear → (g : Bool) → eqb s.held.generation p.held.generation ≡ g
+    behind_go : (o : Option Entry) → case_of (fault_by s (ahead_fault s vs)) o ≡ None → (g : Bool) → eqb s.held.generation p.held.generation ≡ g
         → is_fault (case_of (fault_by s (ahead_fault s (p ∷ vs))) o)
         ≡ g && not (holds (λ (v : Entry). ltb s.index v.index) (last_in p vs)) && holds (λ (v : Entry). ltb v.held.generation s.held.generation) o
     behind_go None c g q = sym (and-false (g && not (holds (λ (v : Entry). ltb s.index v.index) (last_in p vs))))
@@ -117,12 +114,12 @@ module _ (p : Entry) (vs : List Entry) (s : Entry) (k : statement_fault vs s ≡
     falls_behind_lem = rw (statement_by (p ∷ vs) s, below_at) (behind_go (at_in s.range s.index vs) old (eqb s.held.generation p.held.generation) refl)
 
     -- the case of one that falls behind: the new value is what is ahead of it
-    old_ahead : (v : Entry) → fault_by s (ahead_fault s vs) v ≡ Clear → ltb v.held.generation s.held.generation ≡ true → ahead_in s vs ≡ None
+    old_ahead : (v : Entry) → fault_by s (ahead_fault s vs) v ≡ None → ltb v.held.generation s.held.generation ≡ true → ahead_in s vs ≡ None
     unfolding fault_by
     old_ahead v c t =
         let d : held_eqb v.held s.held ≡ false =
         ⊎_elim (λ e. never t (equal_ltb (held_same v.held s.held e).generation)) (λ e. e) (decide (held_eqb v.held s.held)) in
-        let a : ahead_fault s vs ≡ Clear = rw (d, t) at c in
+        let a : ahead_fault s vs ≡ None = rw (d, t) at c in
         none_of (ahead_in s vs) (sym (ahead_fault_lem s vs) ∙ ap is_fault a)
 
     ahead_first : s.held.generation ≡ p.held.generation → ahead_in s vs ≡ None → ahead_fault s (p ∷ vs) ≡ fault 2 (s.range ∷ s.index ∷ p.index ∷ [])
@@ -131,7 +128,7 @@ module _ (p : Entry) (vs : List Entry) (s : Entry) (k : statement_fault vs s ≡
         ahead_by s (p ∷ vs)
         ∙ rw (eq-eqb p.range s.range (sym r), lt-ltb s.index p.index l, eq-eqb p.held.generation s.held.generation (sym g), e)
 
-    behind_case_go : (o : Option Entry) → case_of (fault_by s (ahead_fault s vs)) o ≡ Clear → s.held.generation ≡ p.held.generation
+    behind_case_go : (o : Option Entry) → case_of (fault_by s (ahead_fault s vs)) o ≡ None → s.held.generation ≡ p.held.generation
         → holds (λ (v : Entry). ltb v.held.generation s.held.generation) o ≡ true
         → case_of (fault_by s (ahead_fault s (p ∷ vs))) o ≡ fault 2 (s.range ∷ s.index ∷ p.index ∷ [])
     unfolding fault_by
@@ -229,7 +226,7 @@ module _ (p : Entry) (vs : List Entry) (s : Entry) (k : statement_fault vs s ≡
         rw (statement_by (p ∷ vs) s, at_new p vs s passes_at, next_go (at_in s.range s.index vs) refl (not-true _ b), ahead_same)
 
 -- a statement becomes faulty by a new value exactly as `new_faulty` says
-module _ (p : Entry) (vs : List Entry) (free : any_of (same_place p) vs ≡ false) (s : Entry) (k : statement_fault vs s ≡ Clear) where
+module _ (p : Entry) (vs : List Entry) (free : any_of (same_place p) vs ≡ false) (s : Entry) (k : statement_fault vs s ≡ None) where
   new_go : (a b : Bool) → eqb s.range p.range ≡ a → ltb s.index p.index ≡ b
       → is_fault (statement_fault (p ∷ vs) s) ≡ a && cond b (falls_behind p vs s) (goes_against p vs s)
   new_go false b e q =
@@ -256,7 +253,7 @@ module _ (p : Entry) (vs : List Entry) (free : any_of (same_place p) vs ≡ fals
       (and_right (eqb s.range p.range) (cond (ltb s.index p.index) (falls_behind p vs s) (goes_against p vs s)) t)
 
 -- agreement with a put at a place where none stood: the earliest statement that becomes faulty, where there is one
-module _ (x : TraceRecord) (h : History) (k : agreement h ≡ Clear) (i : ℕ) (role : role_of x h ≡ puts i)
+module _ (x : TraceRecord) (h : History) (k : agreement h ≡ None) (i : ℕ) (role : role_of x h ≡ puts i)
     (free : any_of (same_place (entry_at i x h)) (standing h) ≡ false) where
   agreement_put :
       agreement (x ∷ h)
@@ -280,5 +277,5 @@ module _ (x : TraceRecord) (h : History) (k : agreement h ≡ Clear) (i : ℕ) (
       ∙ new_case p (standing h) free s (found_clear (statement_fault (standing h)) (new_faulty p (standing h)) (stated h) s (stated_clear h k) e)
       (earliest_meets (new_faulty p (standing h)) {xs = stated h} {r = s} e).place.passes
 
-  pub agreement_none : earliest_of (new_faulty (entry_at i x h) (standing h)) (stated h) ≡ None → agreement (x ∷ h) ≡ Clear
+  pub agreement_none : earliest_of (new_faulty (entry_at i x h) (standing h)) (stated h) ≡ None → agreement (x ∷ h) ≡ None
   agreement_none e = agreement_put ∙ ap (case_of (statement_fault (entry_at i x h ∷ standing h))) e

@@ -8,10 +8,8 @@ use native.Mathlib.Omega.{arith}
 use lib.Dec.{eqb, ltb}
 use borrow.Author.Tests.{eqb-true}
 use Rattle.record.specs.Records.{TraceRecord, decode}
-use Rattle.rules.specs.declared.Case.{Case}
-use Rattle.rules.specs.declared.Case.TheVariants.{Clear}
+use Rattle.rules.specs.Cases.{Case, fault}
 use Rattle.rules.specs.History.{History, or_else, any_of, earliest_of}
-use Rattle.rules.specs.Cases.{fault}
 use Rattle.rules.specs.Descriptors.{Entry, puts, role_of, held_by, entry_at, same_place, tells_stated, standing, stated, agreement}
 use Rattle.rules.proofs.Best.{greatest_agree, lowest_agree}
 use Rattle.history.specs.Logs.{bytes_at, record_at, hist}
@@ -113,9 +111,9 @@ statement_some log zero z e = absurd (z refl)
 statement_some log (suc k) z e = let q : suc k - 1 ≡ k = omega arith in sym e ∙ ap (λ (j : ℕ). Some (stated_entry log j)) (sym q)
 
 module _ (log : List ℕ) (n : ℕ) (x : TraceRecord) (h : History) (index : ℕ) (role : role_of x h ≡ puts index)
-    (free : any_of (same_place (entry_at index x h)) (standing h) ≡ false) (k : agreement h ≡ Clear)
+    (free : any_of (same_place (entry_at index x h)) (standing h) ≡ false) (k : agreement h ≡ None)
     (e : statement log n ≡ earliest_of (new_faulty (entry_at index x h) (standing h)) (stated h)) where
-  pub put_clear : n ≡ 0 → Clear ≡ agreement (x ∷ h)
+  pub put_clear : n ≡ 0 → None ≡ agreement (x ∷ h)
   put_clear z = sym (agreement_none x h k index role free (statement_none log n z e))
 
   pub put_faulty : {bytes : List ℕ} {r : Case} → (n ≡ 0 → ⊥) → bytes ≡ bytes_at (n - 1) log → r ≡ new_case index x (decode bytes) (standing h)

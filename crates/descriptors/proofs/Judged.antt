@@ -8,12 +8,9 @@ use native.Mathlib.Omega.{arith}
 use lib.Dec.{eqb, ltb}
 use borrow.Author.Tests.{lt-ltb, le-ltb, ne_eqb}
 use Rattle.record.specs.Records.{TraceRecord, decode}
-use Rattle.rules.specs.declared.Case.{Case}
-use Rattle.rules.specs.declared.Case.TheVariants.{Clear}
+use Rattle.rules.specs.Cases.{Case, fault, fault_if, case_of}
 use Rattle.rules.specs.History.{History, is_some, holds, any_of, latest_of}
-use Rattle.rules.specs.Cases.{fault, fault_if, case_of}
-use Rattle.rules.specs.Descriptors.{Entry, puts, role_of, same_place, agreement, held_by, held_eqb, entry_at, standing, at_in, ahead_fault, differs_fault}
-use Rattle.rules.specs.Descriptors.{statement_fault, first_at_generation_in, first_at_generation}
+use Rattle.rules.specs.Descriptors.{Entry, puts, role_of, same_place, agreement, held_by, held_eqb, entry_at, standing, at_in, ahead_fault, differs_fault, statement_fault, first_at_generation_in, first_at_generation}
 use Rattle.rules.proofs.Placed.{placed_mem, earliest_passing, any_latest}
 use Rattle.rules.proofs.Best.{greatest_meets, lowest_meets}
 use Rattle.rules.proofs.Agreement.{agreement_taken}
@@ -41,7 +38,7 @@ found_some_at log n z e = sym e ∙ put_some log n z
 
 -- what is ahead of a statement
 module _ (log : List ℕ) (n range index generation : ℕ) (vs : List Entry) (e : put log n ≡ lowest_above range index false generation vs) where
-  pub ahead_none : n ≡ 0 → Clear ≡ ahead_case range index generation vs
+  pub ahead_none : n ≡ 0 → None ≡ ahead_case range index generation vs
   ahead_none z = sym (ap (case_of (λ (v : Entry). fault 2 (range ∷ index ∷ v.index ∷ []))) (put_none log n z e))
 
   pub ahead_some : {z : ℕ} {r : Case} → (n ≡ 0 → ⊥) → z ≡ (record_at log (n - 1)).b → r ≡ fault 2 (range ∷ index ∷ z ∷ [])
@@ -71,7 +68,7 @@ module _ (log : List ℕ) (n : ℕ) (x : TraceRecord) (h : History) (index : ℕ
   found_at_lem : put log n ≡ at_in x.a index vs
   found_at_lem = e ∙ at_up_to ra index vs ∙ ap (λ (r : ℕ). at_in r index vs) a
 
-  pub state_none : n ≡ 0 → Clear ≡ statement_fault vs (entry_at index x h)
+  pub state_none : n ≡ 0 → None ≡ statement_fault vs (entry_at index x h)
   unfolding statement_fault
   state_none z = sym (ap (case_of (differs_fault (entry_at index x h) vs)) (put_none log n z found_at_lem))
 
@@ -151,13 +148,13 @@ module _ (log : List ℕ) (n : ℕ) (x : TraceRecord) (h : History) (index : ℕ
   pub place_free : n ≡ 0 → any_of (same_place (entry_at index x h)) (standing h) ≡ false
   place_free z = any_latest (same_place (entry_at index x h)) (standing h) ∙ ap is_some (put_none log n z e)
 
-  module _ (role : role_of x h ≡ puts index) (k : agreement h ≡ Clear) (z : n ≡ 0 → ⊥) {bytes : List ℕ} (b : bytes ≡ bytes_at (n - 1) log) where
+  module _ (role : role_of x h ≡ puts index) (k : agreement h ≡ None) (z : n ≡ 0 → ⊥) {bytes : List ℕ} (b : bytes ≡ bytes_at (n - 1) log) where
     against : agreement (x ∷ h) ≡ fault_if (not (held_eqb (held_by (decode bytes)) (held_by x))) (fault 1 (x.a ∷ index ∷ []))
     against =
         agreement_taken x h k index role (put_entry log (n - 1)) (found_some_at log n z e)
         ∙ ap (λ (y : TraceRecord). fault_if (not (held_eqb (held_by y) (held_by x))) (fault 1 (x.a ∷ index ∷ []))) (sym (record_bytes log (n - 1) b))
 
-    pub put_same : held_eqb (held_by (decode bytes)) (held_by x) ≡ true → Clear ≡ agreement (x ∷ h)
+    pub put_same : held_eqb (held_by (decode bytes)) (held_by x) ≡ true → None ≡ agreement (x ∷ h)
     put_same t = sym (against ∙ rw t)
 
     pub put_differs : {ra : ℕ} {r : Case} → held_eqb (held_by (decode bytes)) (held_by x) ≡ false → ra ≡ x.a → r ≡ fault 1 (ra ∷ index ∷ 0 ∷ [])

@@ -9,27 +9,21 @@ use native.Mathlib.Omega.{arith}
 use lib.Dec.{eqb, leb}
 use lib.ListN.{length, get_or}
 use borrow.Author.Tests.{eq-eqb, ne_eqb}
-use Rattle.record.specs.declared.named.Node.{Node}
-use Rattle.record.specs.declared.named.Node.TheVariants.{Marked, Missing}
+use Rattle.record.specs.Named.{Node}
 use Rattle.record.specs.Records.{TraceRecord}
 use Rattle.record.proofs.Booleans.{never}
 use Rattle.rules.specs.History.{History, Tells, is_kind, is_some, when, given, holds, any_of, latest_of, earliest_of, add_some, add_first, told, firsts}
-use Rattle.rules.specs.Descriptors.{Entry, Role, puts, states, neither, held_by, role_of, entry_at, put_by, stated_by, tells_put, tells_stated}
-use Rattle.rules.specs.Descriptors.{same_place, standing}
-use Rattle.rules.specs.Descriptors.{stated, statements, is_empty, first_at_generation_in, first_at_generation}
+use Rattle.rules.specs.Descriptors.{Entry, Role, puts, states, neither, held_by, role_of, entry_at, put_by, stated_by, tells_put, tells_stated, same_place, standing, stated, statements, is_empty, first_at_generation_in, first_at_generation}
 use Rattle.rules.proofs.Placed.{any_earliest, any_latest}
 use Rattle.rules.proofs.Roles.{puts_entry, states_entry, put_generation}
 use Rattle.rules.proofs.Standing.{standing_cons, stated_cons}
-use Rattle.history.specs.Places.{applied_heads, applied_links, standing_heads, standing_links, stated_heads, stated_links, generation_heads}
-use Rattle.history.specs.Places.{generation_links, counts}
+use Rattle.history.specs.Places.{applied_heads, applied_links, standing_heads, standing_links, stated_heads, stated_links, generation_heads, generation_links, counts}
 use Rattle.history.specs.Columns.{Column, cell_of, Chained, clamp, Put}
 use Rattle.history.proofs.Cells.{cell_new, Same, put_apart, column_agrees, column_put, Zeros, column_clear}
 use Rattle.history.proofs.Chains.{clamped, chained_agrees, entered, not_entered, chained_clear}
 use Rattle.history.specs.Buckets.{bucket_by, bucket_by_two}
 use Rattle.descriptors.specs.declared.note.Told.{Told}
-use Rattle.descriptors.specs.Columns.{new_value, first_value, same_generation, applied_at, applied_bucket, standing_bucket, stated_bucket, generation_bucket}
-use Rattle.descriptors.specs.Columns.{not_below, is_rising, counts_of, counts_after, DescriptorsIndexed, put}
-use Rattle.descriptors.specs.Columns.{is_marked, marked_bucket, EnteredIf, AllEntered, Telling, counts_next, own_columns, DescriptorsNoted}
+use Rattle.descriptors.specs.Columns.{new_value, first_value, same_generation, applied_at, applied_bucket, standing_bucket, stated_bucket, generation_bucket, not_below, is_rising, counts_of, counts_after, DescriptorsIndexed, put, is_marked, marked_bucket, EnteredIf, AllEntered, Telling, counts_next, own_columns, DescriptorsNoted}
 use Rattle.descriptors.specs.Answers.{greatest_up_to}
 use Rattle.descriptors.proofs.Rising.{counts_by, counts_bound, top_reaches}
 use Rattle.descriptors.proofs.Roles.{new_puts, first_new}
@@ -162,8 +156,8 @@ module _ (cap : ℕ) (x : TraceRecord) (h : History) where
       rw (a, d))
 
   applied_go : (n : Node) → applied_at cap x n ≡ when (is_marked n && (is_kind 1 x || is_kind 3 x || is_kind 4 x)) (marked_bucket cap x n)
-  applied_go Missing = refl
-  applied_go (Marked n) = refl
+  applied_go None = refl
+  applied_go (Some n) = refl
 
   applied_when : applied_bucket cap x h ≡ when (is_marked x.node && (is_kind 1 x || is_kind 3 x || is_kind 4 x)) (marked_bucket cap x x.node)
   unfolding applied_bucket

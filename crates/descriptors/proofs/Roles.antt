@@ -13,8 +13,7 @@ use Rattle.history.proofs.Logs.{hist_length}
 use Rattle.rules.proofs.Roles.{puts_entry, states_entry}
 use Rattle.rules.proofs.Tellings.{fresh}
 use Rattle.history.specs.Buckets.{bucket_by, bucket_by_two}
-use Rattle.descriptors.specs.Columns.{new_value, first_value, same_generation, standing_bucket, stated_bucket, generation_bucket, put_entry, stated_index}
-use Rattle.descriptors.specs.Columns.{stated_entry}
+use Rattle.descriptors.specs.Columns.{new_value, first_value, same_generation, standing_bucket, stated_bucket, generation_bucket, put_entry, stated_index, stated_entry}
 
 module _ (log : List ℕ) (k : ℕ) where
   put_is : {v : Entry} → tells_put (record_at log k) (hist log k) ≡ Some v → v ≡ put_entry log k

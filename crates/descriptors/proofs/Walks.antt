@@ -10,8 +10,7 @@ use native.Mathlib.Omega.{arith}
 use native.Mathlib.Numerals.{add-one}
 use lib.Dec.{eqb, ltb, leb}
 use borrow.Author.Tests.{eqb-true}
-use Rattle.record.specs.declared.named.Node.{Node}
-use Rattle.record.specs.declared.named.Node.TheVariants.{Marked, Missing}
+use Rattle.record.specs.Named.{Node}
 use Rattle.record.specs.Records.{TraceRecord, decode}
 use Rattle.record.proofs.Booleans.{decide, never, and_left, and_right}
 use Rattle.rules.specs.History.{History, is_kind, is_by, by_node, any_of, latest_of, earliest_of, greatest_of, lowest_of}
@@ -24,12 +23,10 @@ use Rattle.rules.proofs.Placed.{earliest_none, earliest_passing}
 use Rattle.rules.proofs.Skips.{told_hit, told_skip, latest_of_hit, earliest_of_kept, earliest_of_hit}
 use Rattle.rules.proofs.Tellings.{fresh, when_holds, firsts_afresh}
 use Rattle.history.specs.Weighing.{greater_of, lower_of}
-use Rattle.history.proofs.Queries.{Ignores, ignores_then, latest_ignores, earliest_ignores, greatest_ignores, lowest_ignores, greater_take}
-use Rattle.history.proofs.Queries.{greater_keep, lower_take, lower_keep, greatest_turns, lowest_turns, greatest_end, lowest_end}
+use Rattle.history.proofs.Queries.{Ignores, ignores_then, latest_ignores, earliest_ignores, greatest_ignores, lowest_ignores, greater_take, greater_keep, lower_take, lower_keep, greatest_turns, lowest_turns, greatest_end, lowest_end}
 use Rattle.history.proofs.Walks.{look_less, look_outside, latest_outside, latest_found, latest_passed, latest_end, firsts_outside, firsts_found, firsts_end}
 use Rattle.history.specs.Buckets.{bucket_by, bucket_by_two}
-use Rattle.descriptors.specs.Columns.{new_value, first_value, same_generation, applied_at, applied_bucket, standing_bucket, generation_bucket, put_entry}
-use Rattle.descriptors.specs.Columns.{stated_entry, put, statement}
+use Rattle.descriptors.specs.Columns.{new_value, first_value, same_generation, applied_at, applied_bucket, standing_bucket, generation_bucket, put_entry, stated_entry, put, statement}
 use Rattle.descriptors.specs.Answers.{up_to, above, at_place}
 use Rattle.descriptors.proofs.Roles.{new_fresh, first_new, first_free, in_standing, in_generation}
 
@@ -343,8 +340,8 @@ module _ (cap range generation : ℕ) where
 by_marked : (node : ℕ) (n : Node) (cap : ℕ) (x : TraceRecord) (range : ℕ) → by_node node n ≡ true → is_kind 1 x || is_kind 3 x || is_kind 4 x ≡ true
     → x.a ≡ range
     → applied_at cap x n ≡ Some (bucket_by_two cap node range)
-by_marked node Missing cap x range b k r = never b refl
-by_marked node (Marked m) cap x range b k r = let e : m.0 ≡ node = eqb-true _ _ b in rw (k, r, e)
+by_marked node None cap x range b k r = never b refl
+by_marked node (Some m) cap x range b k r = let e : m.0 ≡ node = eqb-true _ _ b in rw (k, r, e)
 
 module _ (cap node range : ℕ) where
   applied_bucket_lem : (x : TraceRecord) (h : History) (v : ℕ) → tells_applied node range x h ≡ Some v → applied_bucket cap x h

@@ -1,11 +1,9 @@
 -- What the answers of this crate's functions stand for in the rules.
 use Rattle.std.specs.Prelude.{Bool, false, cond, not, ◌&&◌, ◌||◌, List, [], ◌∷◌, ℕ, eqb, ltb, leb, Option, None, Some}
-use Rattle.rules.specs.declared.Case.{Case}
-use Rattle.rules.specs.declared.Found.{Found}
-use Rattle.rules.specs.declared.Found.TheVariants.{At, Nothing}
+use Rattle.rules.specs.Cases.{Case, fault, fault_if, case_of}
+use Rattle.rules.specs.Answers.{Found}
 use Rattle.record.specs.Records.{TraceRecord}
 use Rattle.rules.specs.History.{holds, is_some, greatest_of, lowest_of}
-use Rattle.rules.specs.Cases.{fault, fault_if, case_of}
 use Rattle.rules.specs.Descriptors.{Entry, Held, held_by, held_eqb, at_in, puts, states, neither}
 use Rattle.rules.specs.Descriptors as rules
 use Rattle.descriptors.specs.Columns.{stated_index}
@@ -27,8 +25,8 @@ role_is Neither = neither
 
 -- "These look-ups give the number of the putting record, or none"
 abbrev pub found_by : Option Entry → Found
-found_by None = Nothing
-found_by (Some v) = At v.number
+found_by None = None
+found_by (Some v) = Some v.number
 
 -- the value at a place, as a put asks for it
 abbrev pub at_place : ℕ → ℕ → Entry → Bool

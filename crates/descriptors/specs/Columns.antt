@@ -2,8 +2,7 @@
 -- values, and put the first value of a generation; and a word for each record: the counts after it, and a mark. What a new record
 -- changes in them.
 use Rattle.std.specs.Prelude.{◌≡◌, Bool, true, false, cond, not, ◌&&◌, ◌||◌, List, ◌∷◌, ℕ, zero, suc, ◌+◌, ◌*◌, ◌/◌, ◌≤◌, eqb, leb, length, get_or, Option, None, Some}
-use Rattle.record.specs.declared.named.Node.{Node}
-use Rattle.record.specs.declared.named.Node.TheVariants.{Marked, Missing}
+use Rattle.record.specs.Named.{Node}
 use Rattle.record.specs.Records.{TraceRecord}
 use Rattle.rules.specs.History.{History, Tells, is_kind, is_some, when, given, holds, any_of}
 use Rattle.rules.specs.Descriptors.{Entry, held_by, tells_put, tells_stated, same_place, standing, statements, is_empty}
@@ -26,8 +25,8 @@ first_value x h = given (λ p. cond (any_of (same_generation p) (standing h)) No
 
 -- the records that tell an applied index, by node and range
 abbrev pub applied_at : ℕ → TraceRecord → Node → Option ℕ
-applied_at cap x Missing = None
-applied_at cap x (Marked n) = when (is_kind 1 x || is_kind 3 x || is_kind 4 x) (bucket_by_two cap n.0 x.a)
+applied_at cap x None = None
+applied_at cap x (Some n) = when (is_kind 1 x || is_kind 3 x || is_kind 4 x) (bucket_by_two cap n.0 x.a)
 
 unfoldable pub applied_bucket : ℕ → Tells ℕ
 applied_bucket cap x h = applied_at cap x x.node
@@ -96,12 +95,12 @@ statement log (suc k) = Some (stated_entry log k)
 
 -- a record has a node, and the bucket of its node and range
 abbrev pub is_marked : Node → Bool
-is_marked Missing = false
-is_marked (Marked n) = true
+is_marked None = false
+is_marked (Some n) = true
 
 abbrev pub marked_bucket : ℕ → TraceRecord → Node → ℕ
-marked_bucket cap x Missing = 0
-marked_bucket cap x (Marked n) = bucket_by_two cap n.0 x.a
+marked_bucket cap x None = 0
+marked_bucket cap x (Some n) = bucket_by_two cap n.0 x.a
 
 -- entered where it belongs, and else nothing changes
 abbrev pub EnteredBy : Bool → List ℕ → List ℕ → ℕ → ℕ → ℕ → ℕ → Type 0

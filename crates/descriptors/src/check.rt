@@ -1,7 +1,6 @@
 // Agreement: the case of a new record, where there was none before. Only what the record touches is judged.
-ghost use Rattle.std.specs.Prelude.{◌≡◌, true, false, cond, [], ◌∷◌, ◌+◌, ◌*◌, ◌-◌, ◌≤◌, ◌<◌, leb, ltb, length};
+ghost use Rattle.std.specs.Prelude.{◌≡◌, true, false, cond, [], ◌∷◌, ◌+◌, ◌*◌, ◌-◌, ◌≤◌, ◌<◌, leb, ltb, length, None};
 ghost use Rattle.record.specs.Records.{decode};
-ghost use Rattle.rules.specs.declared.Case.TheVariants.{Clear};
 ghost use Rattle.rules.specs.History.{holds, is_some, earliest_of, any_of};
 ghost use Rattle.rules.specs.Cases.{fault};
 ghost use Rattle.rules.specs.Descriptors.{role_of, puts, held_by, standing, stated, at_in, statement_fault, entry_at, same_place, agreement};
@@ -18,10 +17,10 @@ use history::bucket::bucket_by;
 use history::held::same_held;
 use history::log::record_at;
 use record::field::{a, b, c, d, kind};
-use rules::{Case, Evidence};
+use rules::{Fault, Evidence};
 
 // A fault of a kind with two numbers or three.
-fn fault(kind: u8, x: u64, y: u64, z: u64) -> Case
+fn fault(kind: u8, x: u64, y: u64, z: u64) -> Option<Fault>
     ensures { result ≡ fault kind (x ∷ y ∷ z ∷ []) }
 {
     Case::Fault(
@@ -45,13 +44,13 @@ fn ahead_case(
     range: u64,
     index: u64,
     generation: u64,
-) -> Case
+) -> Option<Fault>
     requires { Bounds log.now work.now count cap }
     ensures { DescriptorsIndexed cap (hist log.now count) work.now → result ≡ ahead_case range index generation (standing (hist log.now count)) }
 {
     let n = lowest(log, work, count, cap, range, index, false, generation);
     if n == 0 {
-        return Case::Clear;
+        return None;
     }
     fault(2, range, index, index_of(log, n))
 }
@@ -65,12 +64,12 @@ fn differing_case(
     value: &[u8],
     stated: &[u8],
     index: u64,
-) -> Case
+) -> Option<Fault>
     requires { Bounds log.now work.now count cap × ((length value.now ≡ 368) × (length stated.now ≡ 368)) }
     ensures { DescriptorsIndexed cap (hist log.now count) work.now → result ≡ differs_case (decode stated.now).a index (held_by (decode value.now)) (held_by (decode stated.now)) (standing (hist log.now count)) }
 {
     if same_held(value, stated) {
-        return Case::Clear;
+        return None;
     }
     if d(value) < d(stated) {
         return ahead_case(log, work, count, cap, a(stated), index, d(stated));
@@ -86,13 +85,13 @@ fn statement_case(
     cap: usize,
     rec: &[u8],
     index: u64,
-) -> Case
+) -> Option<Fault>
     requires { Bounds log.now work.now count cap × (length rec.now ≡ 368) }
     ensures { DescriptorsIndexed cap (hist log.now count) work.now → result ≡ statement_fault (standing (hist log.now count)) (entry_at index (decode rec.now) (hist log.now count)) }
 {
     let n = greatest(log, work, count, cap, a(rec), false, index, true, 0);
     if n == 0 {
-        return Case::Clear;
+        return None;
     }
     differing_case(log, work, count, cap, record_at(log, n - 1), rec, index)
 }
@@ -278,7 +277,7 @@ fn new_case(
     rec: &[u8],
     index: u64,
     s: &[u8],
-) -> Case
+) -> Option<Fault>
     requires { Bounds log.now work.now count cap × ((length rec.now ≡ 368) × (length s.now ≡ 368)) }
     ensures { DescriptorsIndexed cap (hist log.now count) work.now → result ≡ new_case index (decode rec.now) (decode s.now) (standing (hist log.now count)) }
 {
@@ -301,42 +300,42 @@ fn last_of(log: &[u8], work: &[u64], count: usize, cap: usize, range: u64, gener
 }
 
 // The case of a put at an index where no value stood.
-fn new_put_case(log: &[u8], work: &[u64], count: usize, cap: usize, rec: &[u8], index: u64) -> Case
+fn new_put_case(log: &[u8], work: &[u64], count: usize, cap: usize, rec: &[u8], index: u64) -> Option<Fault>
     requires { Bounds log.now work.now count cap × (length rec.now ≡ 368) }
-    ensures { DescriptorsIndexed cap (hist log.now count) work.now → role_of (decode rec.now) (hist log.now count) ≡ puts index → any_of (same_place (entry_at index (decode rec.now) (hist log.now count))) (standing (hist log.now count)) ≡ false → agreement (hist log.now count) ≡ Clear → result ≡ agreement (decode rec.now ∷ hist log.now count) }
+    ensures { DescriptorsIndexed cap (hist log.now count) work.now → role_of (decode rec.now) (hist log.now count) ≡ puts index → any_of (same_place (entry_at index (decode rec.now) (hist log.now count))) (standing (hist log.now count)) ≡ false → agreement (hist log.now count) ≡ None → result ≡ agreement (decode rec.now ∷ hist log.now count) }
 {
     let next = lowest(log, work, count, cap, a(rec), index, true, 0);
     let last = last_of(log, work, count, cap, a(rec), d(rec));
     let n = first_faulty(log, work, count, cap, rec, index, next, last);
     if n == 0 {
-        return Case::Clear;
+        return None;
     }
     new_case(log, work, count, cap, rec, index, record_at(log, n - 1))
 }
 
 // The case of a put at an index.
-fn put_case(log: &[u8], work: &[u64], count: usize, cap: usize, rec: &[u8], index: u64) -> Case
+fn put_case(log: &[u8], work: &[u64], count: usize, cap: usize, rec: &[u8], index: u64) -> Option<Fault>
     requires { Bounds log.now work.now count cap × (length rec.now ≡ 368) }
-    ensures { DescriptorsIndexed cap (hist log.now count) work.now → role_of (decode rec.now) (hist log.now count) ≡ puts index → agreement (hist log.now count) ≡ Clear → result ≡ agreement (decode rec.now ∷ hist log.now count) }
+    ensures { DescriptorsIndexed cap (hist log.now count) work.now → role_of (decode rec.now) (hist log.now count) ≡ puts index → agreement (hist log.now count) ≡ None → result ≡ agreement (decode rec.now ∷ hist log.now count) }
 {
     let n = standing_at(log, work, count, cap, a(rec), index);
     if n == 0 {
         return new_put_case(log, work, count, cap, rec, index);
     }
     if same_held(record_at(log, n - 1), rec) {
-        return Case::Clear;
+        return None;
     }
     fault(1, a(rec), index, 0)
 }
 
 // The case of a new record, where there was none before it.
-pub fn agreement(log: &[u8], work: &[u64], count: usize, cap: usize, rec: &[u8]) -> Case
+pub fn agreement(log: &[u8], work: &[u64], count: usize, cap: usize, rec: &[u8]) -> Option<Fault>
     requires { Bounds log.now work.now count cap × (length rec.now ≡ 368) }
-    ensures { DescriptorsIndexed cap (hist log.now count) work.now → agreement (hist log.now count) ≡ Clear → result ≡ agreement (decode rec.now ∷ hist log.now count) }
+    ensures { DescriptorsIndexed cap (hist log.now count) work.now → agreement (hist log.now count) ≡ None → result ≡ agreement (decode rec.now ∷ hist log.now count) }
 {
     match role_of(log, work, count, cap, rec) {
         Role::Puts(index) => put_case(log, work, count, cap, rec, index),
         Role::States(index) => statement_case(log, work, count, cap, rec, index),
-        Role::Neither => Case::Clear,
+        Role::Neither => None,
     }
 }

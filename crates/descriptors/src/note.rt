@@ -18,7 +18,6 @@ use history::place::{
     STANDING_LINKS, STATED_HEADS, STATED_LINKS,
 };
 use record::field::{a, d, kind, node};
-use record::named::Node;
 
 // What a new record is to be entered for: it puts, it states, its value stands, it is the first of its generation, it is above
 // every standing value of its range.
@@ -46,18 +45,18 @@ fn applied_bucket(cap: usize, rec: &[u8]) -> usize
     requires { (0 < cap) × ((cap ≤ 4096) × (length rec.now ≡ 368)) }
     ensures { (result ≡ marked_bucket cap (decode rec.now) (decode rec.now).node) × (result < cap) }
 {
-    let Node::Marked(n) = node(rec) else {
+    let Some(n) = node(rec) else {
         return 0;
     };
     bucket_by_two(cap, n.0 as u64, a(rec))
 }
 
-fn is_marked(n: Node) -> bool
+fn is_marked(n: Option<NodeId>) -> bool
     ensures { result ≡ is_marked n }
 {
     match n {
-        Node::Marked(_) => true,
-        Node::Missing => false,
+        Some(_) => true,
+        None => false,
     }
 }
 

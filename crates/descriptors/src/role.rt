@@ -12,7 +12,7 @@ use crate::cells::{applied_below, applied_top};
 use history::bucket::bucket_by_two;
 use history::log::record_at;
 use record::field::{a, b, c, cause, code, kind, node};
-use record::named::{Node, RangeCause};
+use record::named::RangeCause;
 
 #[derive(Clone, Copy)]
 pub enum Applied {
@@ -27,12 +27,12 @@ pub enum Role {
     Neither,
 }
 
-fn is_by(n: Node, id: u32) -> bool
+fn is_by(n: Option<NodeId>, id: u32) -> bool
     ensures { result ≡ by_node id n }
 {
     match n {
-        Node::Marked(m) => m.0 == id,
-        Node::Missing => false,
+        Some(m) => m.0 == id,
+        None => false,
     }
 }
 
@@ -87,7 +87,7 @@ fn is_reached(log: &[u8], work: &[u64], count: usize, cap: usize, rec: &[u8]) ->
     requires { Bounds log.now work.now count cap × (length rec.now ≡ 368) }
     ensures { DescriptorsIndexed cap (hist log.now count) work.now → result ≡ reached (decode rec.now) (hist log.now count) (decode rec.now).node }
 {
-    let Node::Marked(n) = node(rec) else {
+    let Some(n) = node(rec) else {
         return false;
     };
     at_least(applied_of(log, work, count, cap, n.0, a(rec)), c(rec))

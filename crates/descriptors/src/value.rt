@@ -15,7 +15,6 @@ use crate::cells::{generation_below, generation_top, is_rising, standing_below, 
 use history::bucket::{bucket_by, bucket_by_two};
 use history::log::record_at;
 use record::field::{a, b, d};
-use rules::Found;
 
 // The index at which the record of a number puts its value.
 pub fn index_of(log: &[u8], number: usize) -> u64
@@ -216,18 +215,18 @@ pub fn first_of(
     0
 }
 
-fn found(number: usize) -> Found
+fn found(number: usize) -> Option<u64>
     requires { number ≤ 4096 }
     ensures { result ≡ found_at number }
 {
     if number == 0 {
-        return Found::Nothing;
+        return None;
     }
-    Found::At(number as u64)
+    Some(number as u64)
 }
 
 // The value in force at an index of a range: the number of the record that put it.
-pub fn at(log: &[u8], work: &[u64], count: usize, cap: usize, range: u64, index: u64) -> Found
+pub fn at(log: &[u8], work: &[u64], count: usize, cap: usize, range: u64, index: u64) -> Option<u64>
     requires { Bounds log.now work.now count cap }
     ensures { DescriptorsIndexed cap (hist log.now count) work.now → result ≡ found_by (at range index (hist log.now count)) }
 {
@@ -235,12 +234,12 @@ pub fn at(log: &[u8], work: &[u64], count: usize, cap: usize, range: u64, index:
 }
 
 // The value in force before an index of a range: the one at the index before it.
-pub fn before(log: &[u8], work: &[u64], count: usize, cap: usize, range: u64, index: u64) -> Found
+pub fn before(log: &[u8], work: &[u64], count: usize, cap: usize, range: u64, index: u64) -> Option<u64>
     requires { Bounds log.now work.now count cap }
     ensures { DescriptorsIndexed cap (hist log.now count) work.now → result ≡ found_by (before range index (hist log.now count)) }
 {
     if index == 0 {
-        return Found::Nothing;
+        return None;
     }
     at(log, work, count, cap, range, index - 1)
 }
@@ -253,7 +252,7 @@ pub fn first_at_generation(
     cap: usize,
     range: u64,
     generation: u64,
-) -> Found
+) -> Option<u64>
     requires { Bounds log.now work.now count cap }
     ensures { DescriptorsIndexed cap (hist log.now count) work.now → result ≡ found_by (first_at_generation range generation (hist log.now count)) }
 {

@@ -1,4 +1,5 @@
 -- Events as numbers: the word of a run's events is their number, and two records have one mark and node where the numbers are one.
+use Rattle.std.specs.Prelude.{Some, None}
 use mathlib.Core.Path.{◌≡◌, refl, sym, ap, ◌∙◌}
 use mathlib.Core.Bool.{Bool, true, false, cond, not, ◌&&◌, ◌||◌}
 use mathlib.Core.List.{List, [], ◌∷◌}
@@ -9,8 +10,7 @@ use native.Mathlib.Numerals.{add-one}
 use lib.ListN.{length}
 use lib.Dec.{eqb}
 use borrow.Author.Tests.{eqb-false, eq-eqb, ne_eqb}
-use Rattle.record.specs.declared.named.Node.{Node}
-use Rattle.record.specs.declared.named.Node.TheVariants.{Marked, Missing}
+use Rattle.record.specs.Named.{Node}
 use Rattle.record.specs.Records.{TraceRecord}
 use Rattle.rules.specs.History.{History}
 use Rattle.rules.specs.Events.{continues, event_after, events, same_node, goes_on, stray}
@@ -47,10 +47,10 @@ next_same m n = elim (ℕ_discrete m n) [
 ]
 
 pub same_number : (a b : Node) → eqb (node_number a) (node_number b) ≡ same_node a b
-same_number (Marked m) (Marked n) = next_same m.0 n.0
-same_number (Marked m) Missing = ne_eqb (m.0 + 1) 0 (λ e. omega arith)
-same_number Missing (Marked n) = ne_eqb 0 (n.0 + 1) (λ e. omega arith)
-same_number Missing Missing = refl
+same_number (Some m) (Some n) = next_same m.0 n.0
+same_number (Some m) None = ne_eqb (m.0 + 1) 0 (λ e. omega arith)
+same_number None (Some n) = ne_eqb 0 (n.0 + 1) (λ e. omega arith)
+same_number None None = refl
 
 -- ---- refusal 11 by the log
 

@@ -1,7 +1,6 @@
 -- The number of events as a word of a judge, and a record's mark and node as one number.
-use Rattle.std.specs.Prelude.{cond, ◌||◌, ℕ, ◌+◌, eqb}
-use Rattle.record.specs.declared.named.Node.{Node}
-use Rattle.record.specs.declared.named.Node.TheVariants.{Marked, Missing}
+use Rattle.std.specs.Prelude.{cond, ◌||◌, ℕ, ◌+◌, eqb, Some, None}
+use Rattle.record.specs.Named.{Node}
 use Rattle.record.specs.Records.{TraceRecord}
 use Rattle.rules.specs.Events.{continues}
 
@@ -16,5 +15,5 @@ event_in n x = cond (continues x || eqb n most) n (n + 1)
 
 -- a record's mark and node: 0 where it is not marked
 abbrev pub node_number : Node → ℕ
-node_number (Marked n) = n.0 + 1
-node_number Missing = 0
+node_number (Some n) = n.0 + 1
+node_number None = 0

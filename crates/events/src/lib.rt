@@ -9,7 +9,6 @@ ghost use Rattle.events.specs.Numbers.{node_number, event_in};
 
 use history::log::record_at;
 use record::field::{b, flag, kind, node};
-use record::named::Node;
 
 // MetaApplied, the one kind whose records continue.
 const META_APPLIED: u8 = 12;
@@ -42,8 +41,8 @@ fn node_number(rec: &[u8]) -> u64
     ensures { result ≡ node_number (decode rec.now).node }
 {
     match node(rec) {
-        Node::Marked(n) => n.0 as u64 + 1,
-        Node::Missing => 0,
+        Some(n) => n.0 as u64 + 1,
+        None => 0,
     }
 }
 

@@ -7,11 +7,9 @@ use Prim.Native.Nat.{ℕ, suc, ◌-◌}
 use native.Mathlib.Omega.{arith}
 use Rattle.record.specs.Keys.{key_eqb}
 use Rattle.record.specs.Records.{TraceRecord}
-use Rattle.rules.specs.declared.Case.{Case}
-use Rattle.rules.specs.declared.Case.TheVariants.{Clear}
+use Rattle.rules.specs.Cases.{Case, fault, fault_if, case_of}
 use Rattle.rules.specs.declared.Verdict.TheVariants.{Pass}
 use Rattle.rules.specs.History.{History, holds, any_of, latest_of}
-use Rattle.rules.specs.Cases.{fault, fault_if, case_of}
 use Rattle.rules.specs.Descriptors.{span_of}
 use Rattle.rules.specs.GenerationsRise.{Write, tells_write, same_write, writes, is_earlier, opposes, last_generation, rise_fault, write_fault, generations_at}
 use Rattle.rules.specs.Reports.{at_last, report_of}
@@ -75,19 +73,19 @@ module _ (x : TraceRecord) (h : History) where
       go false k = rw (write_told x h e, k)
 
   -- and of any other record
-  none_case : first_write x h ≡ None → Clear ≡ generations_at x h
+  none_case : first_write x h ≡ None → None ≡ generations_at x h
   unfolding generations_at first_write
   none_case e = go (tells_write x h) refl
     where
-      pick : (w : Write) (t : Bool) → tells_write x h ≡ Some w → any_of (same_write w) (writes h) ≡ t → Clear ≡ generations_at x h
+      pick : (w : Write) (t : Bool) → tells_write x h ≡ Some w → any_of (same_write w) (writes h) ≡ t → None ≡ generations_at x h
       pick w true f k = rw (f, k)
       pick w false f k = none_some {a = w} (sym e ∙ rw (f, k))
 
-      go : (o : Option Write) → tells_write x h ≡ o → Clear ≡ generations_at x h
+      go : (o : Option Write) → tells_write x h ≡ o → None ≡ generations_at x h
       go None f = rw f
       go (Some w) f = pick w (any_of (same_write w) (writes h)) f refl
 
-  pub case_not : Not ≡ written_as x h → Clear ≡ generations_at x h
+  pub case_not : Not ≡ written_as x h → None ≡ generations_at x h
   case_not e = none_case (not_is e)
 
   pub case_unrated : {range index : ℕ} {r : Case} → range ≡ x.a → index ≡ x.b → r ≡ fault 1 (range ∷ index ∷ 0 ∷ 0 ∷ 0 ∷ [])
@@ -120,7 +118,7 @@ module _ (x : TraceRecord) (g : ℕ) (log : List ℕ) (count : ℕ) (pass : (rep
   last_of : LastIs log last n
   last_of = rw f (last_is W.key log count)
 
-  pub rise_none : n ≡ 0 → Clear ≡ rise_fault W g (writes (hist log count))
+  pub rise_none : n ≡ 0 → None ≡ rise_fault W g (writes (hist log count))
   rise_none z =
       let e : last ≡ None = rw z at last_of in
       let d : holds (opposes W.range g) last ≡ false = ap (holds (opposes W.range g)) e in
@@ -152,6 +150,6 @@ module _ (x : TraceRecord) (g : ℕ) (log : List ℕ) (count : ℕ) (pass : (rep
     rise_fault_lem t e = e ∙ sym (ap (λ (s : Bool). fault_if s (fault 2 (range ∷ index ∷ g ∷ v ∷ by ∷ []))) t) ∙ weighed_by
 
   pub rise_clear : (n ≡ 0 → ⊥) → {range by v : ℕ} → range ≡ x.a → (record_at log (n - 1)).a ≡ by
-      → v ≡ generation_by (record_at log (n - 1)) (hist log (n - 1)) → against range g by v ≡ false → Clear ≡ rise_fault W g (writes (hist log count))
+      → v ≡ generation_by (record_at log (n - 1)) (hist log (n - 1)) → against range g by v ≡ false → None ≡ rise_fault W g (writes (hist log count))
   rise_clear z {range} {by} {v} p b u t =
       sym (ap (λ (s : Bool). fault_if s (fault 2 (range ∷ x.b ∷ g ∷ v ∷ by ∷ []))) t) ∙ weighed_by z p refl b u

@@ -26,8 +26,7 @@ use Rattle.history.proofs.Cells.{cell_at}
 use Rattle.history.proofs.Chains.{In, latest_here, latest_else}
 use Rattle.history.proofs.Walks.{look_less, look_end, look_outside}
 use Rattle.firsts.specs.Columns.{first_write, write_of}
-use Rattle.generations_rise.specs.Columns.{rated_write, rolled, rolled_all, bucket_by_key, key_bucket}
-use Rattle.generations_rise.specs.Columns.{generation_by, writes_key, last_write_at, GenerationsIndexed}
+use Rattle.generations_rise.specs.Columns.{rated_write, rolled, rolled_all, bucket_by_key, key_bucket, generation_by, writes_key, last_write_at, GenerationsIndexed}
 use Rattle.firsts.proofs.Writes.{write_is, writes_more, writes_same}
 
 -- one byte more of a key's number, and the end

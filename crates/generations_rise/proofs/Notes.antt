@@ -24,8 +24,7 @@ use Rattle.generations_rise.specs.Answers.{written_as}
 use Rattle.generations_rise.proofs.Writes.{as_none}
 use Rattle.firsts.proofs.Writes.{write_is, written_not_granted}
 use Rattle.rules.proofs.Writes.{not_apply}
-use Rattle.generations_rise.proofs.KeyWrites.{rated_none, rated_without, rated_with, key_in, key_none}
-use Rattle.generations_rise.proofs.KeyWrites.{generation_none, generation_without, generation_with}
+use Rattle.generations_rise.proofs.KeyWrites.{rated_none, rated_without, rated_with, key_in, key_none, generation_none, generation_without, generation_with}
 use Rattle.generations_rise.proofs.Cases.{not_is, unrated_is, rated_is}
 
 -- a record with no write that counts: nothing changes

@@ -7,8 +7,7 @@ use Prim.Native.Nat.{ℕ, zero, suc, ◌-◌, ◌≤◌, ◌<◌}
 use native.Mathlib.Omega.{arith}
 use borrow.Author.Tests.{lt-ltb, le-ltb}
 use Rattle.record.specs.Records.{TraceRecord, decode}
-use Rattle.rules.specs.declared.Found.{Found}
-use Rattle.rules.specs.declared.Found.TheVariants.{At, Nothing}
+use Rattle.rules.specs.Answers.{Found}
 use Rattle.rules.specs.History.{History, any_of, firsts}
 use Rattle.rules.specs.Descriptors.{Entry, tells_put, same_place, standing, before}
 use Rattle.rules.specs.GenerationsRise.{generation_of, writes}
@@ -71,11 +70,11 @@ standing_numbered log zero v m = none_standing log v (rw (hist_none log) at m)
 standing_numbered log (suc n) v m =
     standing_step log n (standing_numbered log n) (tells_put (record_at log n) (hist log n)) refl v (rw (hist_suc log n) at m)
 
-rated_at : (log : List ℕ) (count n k : ℕ) → n ≡ suc k → k < count → found_generation log count (At n) ≡ Rated (record_at log k).d
+rated_at : (log : List ℕ) (count n k : ℕ) → n ≡ suc k → k < count → found_generation log count (Some n) ≡ Rated (record_at log k).d
 unfolding found_generation
 rated_at log count n k e l = rw (e, lt-ltb k count l)
 
-none_at : (log : List ℕ) (count : ℕ) → found_generation log count Nothing ≡ Unrated
+none_at : (log : List ℕ) (count : ℕ) → found_generation log count None ≡ Unrated
 unfolding found_generation
 none_at log count = refl
 
@@ -93,23 +92,23 @@ found_generation_lem log count range index = go (before range index (hist log co
 
 -- by which way it is read
 module _ (log : List ℕ) (count : ℕ) where
-  pub found_zero : {n : ℕ} → n ≡ 0 → Unrated ≡ found_generation log count (At n)
+  pub found_zero : {n : ℕ} → n ≡ 0 → Unrated ≡ found_generation log count (Some n)
   unfolding found_generation
   found_zero e = rw e
 
   pub found_read : {n : ℕ} {rec : List ℕ} {g : ℕ} → (n ≡ 0 → ⊥) → n - 1 < count → rec ≡ bytes_at (n - 1) log → g ≡ (decode rec).d
-      → Rated g ≡ found_generation log count (At n)
+      → Rated g ≡ found_generation log count (Some n)
   found_read {n} z l e q =
       ap Rated (q ∙ ap (λ (x : TraceRecord). x.d) (record_bytes log (n - 1) e)) ∙ sym (rated_at log count n (n - 1) (omega arith) l)
 
-  past_at : (k : ℕ) → count ≤ k → found_generation log count (At (suc k)) ≡ Unrated
+  past_at : (k : ℕ) → count ≤ k → found_generation log count (Some (suc k)) ≡ Unrated
   unfolding found_generation
   past_at k l = rw (le-ltb k count l)
 
-  pub found_past : {n : ℕ} → (n ≡ 0 → ⊥) → count ≤ n - 1 → Unrated ≡ found_generation log count (At n)
+  pub found_past : {n : ℕ} → (n ≡ 0 → ⊥) → count ≤ n - 1 → Unrated ≡ found_generation log count (Some n)
   found_past {n} z l =
       let m : suc (n - 1) ≡ n = omega arith in
-      sym (ap (λ (k : ℕ). found_generation log count (At k)) (sym m) ∙ past_at (n - 1) l)
+      sym (ap (λ (k : ℕ). found_generation log count (Some k)) (sym m) ∙ past_at (n - 1) l)
 
 -- ---- what a record's write counts as
 

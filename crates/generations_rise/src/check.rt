@@ -17,10 +17,10 @@ use crate::write::{Written, counts_as};
 use history::log::record_at;
 use history::span::start_of;
 use record::field::{a, b};
-use rules::{Case, Evidence};
+use rules::{Fault, Evidence};
 
 // A fault with its five numbers.
-fn fault_of(kind: u8, e0: u64, e1: u64, e2: u64, e3: u64, e4: u64) -> Case
+fn fault_of(kind: u8, e0: u64, e1: u64, e2: u64, e3: u64, e4: u64) -> Option<Fault>
     ensures { result ≡ fault kind (e0 ∷ e1 ∷ e2 ∷ e3 ∷ e4 ∷ []) }
 {
     Case::Fault(
@@ -50,13 +50,13 @@ fn rise_case(
     cap: usize,
     rec: &[u8],
     generation: u64,
-) -> Case
+) -> Option<Fault>
     requires { Bounds log.now work.now count cap × (length rec.now ≡ 368) }
     ensures { GenerationsIndexed cap (hist log.now count) work.now → (report_of (at_last generations_at) (hist log.now count)).verdict ≡ Pass → result ≡ rise_fault (write_of (decode rec.now) (hist log.now count)) generation (writes (hist log.now count)) }
 {
     let n = last_write_at(log, work, count, cap, start_of(rec, 0));
     if n == 0 {
-        return Case::Clear;
+        return None;
     }
     let at = n - 1;
     let range = a(rec);
@@ -65,7 +65,7 @@ fn rise_case(
     if is_against(range, generation, by, last) {
         return fault_of(2, range, b(rec), generation, last, by);
     }
-    Case::Clear
+    None
 }
 
 // The generations case of a record whose write counts as w, while the report is a pass.
@@ -76,19 +76,19 @@ pub fn generations_case(
     cap: usize,
     rec: &[u8],
     w: Written,
-) -> Case
+) -> Option<Fault>
     requires { Bounds log.now work.now count cap × (length rec.now ≡ 368) }
     ensures { GenerationsIndexed cap (hist log.now count) work.now → (report_of (at_last generations_at) (hist log.now count)).verdict ≡ Pass → w ≡ written_as (decode rec.now) (hist log.now count) → result ≡ generations_at (decode rec.now) (hist log.now count) }
 {
     match w {
-        Written::Not => Case::Clear,
+        Written::Not => None,
         Written::Unrated => fault_of(1, a(rec), b(rec), 0, 0, 0),
         Written::Rated(generation) => rise_case(log, work, count, cap, rec, generation),
     }
 }
 
 // The generations case of a record over the records taken, while the report is a pass.
-pub fn generations(log: &[u8], work: &[u64], count: usize, cap: usize, rec: &[u8]) -> Case
+pub fn generations(log: &[u8], work: &[u64], count: usize, cap: usize, rec: &[u8]) -> Option<Fault>
     requires { Bounds log.now work.now count cap × (length rec.now ≡ 368) }
     ensures { FirstsIndexed cap (hist log.now count) work.now → DescriptorsIndexed cap (hist log.now count) work.now → GenerationsIndexed cap (hist log.now count) work.now → (report_of (at_last generations_at) (hist log.now count)).verdict ≡ Pass → result ≡ generations_at (decode rec.now) (hist log.now count) }
 {

@@ -19,7 +19,6 @@ use descriptors::value::before;
 use firsts::cells::is_counted;
 use history::log::record_at;
 use record::field::{a, b, code, d, kind, span_count};
-use rules::Found;
 
 // What a record's write counts as: none that counts, one that has no generation, one at a generation.
 #[derive(Clone, Copy)]
@@ -38,13 +37,13 @@ fn is_write(rec: &[u8]) -> bool
 }
 
 // The generation of the value that was found.
-fn generation_of(log: &[u8], count: usize, found: Found) -> Written
+fn generation_of(log: &[u8], count: usize, found: Option<u64>) -> Written
     requires { 368 * count ≤ length log.now }
     ensures { result ≡ found_generation log.now count found }
 {
     match found {
-        Found::Nothing => Written::Unrated,
-        Found::At(n) => generation_at(log, count, n),
+        None => Written::Unrated,
+        Some(n) => generation_at(log, count, n),
     }
 }
 
@@ -80,13 +79,13 @@ pub fn counts_as(log: &[u8], work: &[u64], count: usize, cap: usize, rec: &[u8])
 }
 
 // The record with the last write of the key in a place, as a look-up's answer.
-pub fn last_write(log: &[u8], work: &[u64], count: usize, cap: usize, place: &[u8]) -> Found
+pub fn last_write(log: &[u8], work: &[u64], count: usize, cap: usize, place: &[u8]) -> Option<u64>
     requires { Bounds log.now work.now count cap }
     ensures { GenerationsIndexed cap (hist log.now count) work.now → result ≡ found_at (last_write_at (key_in place.now) (hist log.now count)) }
 {
     let n = last_write_at(log, work, count, cap, place);
     if n == 0 {
-        return Found::Nothing;
+        return None;
     }
-    Found::At(n as u64)
+    Some(n as u64)
 }

@@ -8,10 +8,8 @@ use native.Mathlib.Omega.{arith}
 use lib.Dec.{eqb, leb}
 use borrow.Author.Tests.{eq-eqb, ne_eqb, le-leb, lt-leb}
 use Rattle.record.specs.Records.{TraceRecord, decode}
-use Rattle.rules.specs.declared.Case.{Case}
-use Rattle.rules.specs.declared.Case.TheVariants.{Clear}
+use Rattle.rules.specs.Cases.{Case, fault, fault_if}
 use Rattle.rules.specs.History.{History, latest_of, any_of}
-use Rattle.rules.specs.Cases.{fault, fault_if}
 use Rattle.rules.specs.IdsUnique.{Grant, grant_by, grant_eqb, same_index, first_grants, shares, blocks_of, shared_fault, first_fault, grant_fault, ids_at}
 use Rattle.history.specs.Logs.{bytes_at, record_at, hist}
 use Rattle.history.proofs.Logs.{record_bytes}
@@ -36,7 +34,7 @@ module _ (g : Grant) (bs : List Grant) where
       rw n
 
   pub apart_case : {first last top : ℕ} → first ≡ g.first → last ≡ g.last → first ≤ last → top ≡ greatest_of_lasts bs → top < first
-      → Clear ≡ first_fault g bs
+      → None ≡ first_fault g bs
   apart_case p q l t a = sym (full_case p q l ∙ rw (above_all g bs (omega arith)))
 
   pub walk_case : {first last : ℕ} {s : Shared} → first ≡ g.first → last ≡ g.last → first ≤ last
@@ -52,12 +50,12 @@ module _ (g : Grant) where
       → r ≡ fault_if s.any (fault 3 (g.index ∷ s.top ∷ []))
   shared_fault_lem s {b} a i e = e ∙ ap (λ (k : ℕ). fault 3 (k ∷ s.top ∷ [])) i ∙ rw a
 
-  pub shared_clear : (s : Shared) → s.any ≡ false → Clear ≡ fault_if s.any (fault 3 (g.index ∷ s.top ∷ []))
+  pub shared_clear : (s : Shared) → s.any ≡ false → None ≡ fault_if s.any (fault 3 (g.index ∷ s.top ∷ []))
   shared_clear s a = rw a
 
 -- a grant again
 module _ (g o : Grant) {t : Bool} (e : t ≡ grant_eqb g o) where
-  pub again_same : t ≡ true → Clear ≡ fault_if (not (grant_eqb g o)) (fault 1 (g.index ∷ []))
+  pub again_same : t ≡ true → None ≡ fault_if (not (grant_eqb g o)) (fault 1 (g.index ∷ []))
   again_same q = let n : grant_eqb g o ≡ true = sym e ∙ q in rw n
 
   pub again_other : {b : ℕ} {r : Case} → t ≡ false → b ≡ g.index → r ≡ fault 1 (b ∷ 0 ∷ []) → r ≡ fault_if (not (grant_eqb g o)) (fault 1 (g.index ∷ []))
@@ -67,7 +65,7 @@ module _ (g o : Grant) {t : Bool} (e : t ≡ grant_eqb g o) where
 
 -- the case of a record: no grant; a first one; one again
 module _ (x : TraceRecord) where
-  pub no_grant_case : {k : ℕ} (h : History) → k ≡ x.kind → (k ≡ 11 → ⊥) → Clear ≡ ids_at x h
+  pub no_grant_case : {k : ℕ} (h : History) → k ≡ x.kind → (k ≡ 11 → ⊥) → None ≡ ids_at x h
   unfolding ids_at
   no_grant_case h e n =
       let q : eqb x.kind 11 ≡ false = ne_eqb x.kind 11 (λ z. n (e ∙ z)) in

@@ -13,10 +13,10 @@ use crate::cells::greatest_last;
 use firsts::cells::grant_at;
 use history::log::record_at;
 use record::field::{a, b, c, d, e, kind};
-use rules::{Case, Evidence};
+use rules::{Fault, Evidence};
 
 // A fault with its first two numbers.
-fn fault_of(kind: u8, e0: u64, e1: u64) -> Case
+fn fault_of(kind: u8, e0: u64, e1: u64) -> Option<Fault>
     ensures { result ≡ fault kind (e0 ∷ e1 ∷ []) }
 {
     Case::Fault(
@@ -40,18 +40,18 @@ fn same_grant(new: &[u8], old: &[u8]) -> bool
 }
 
 // The case of a grant whose index has one before.
-fn again_case(new: &[u8], old: &[u8]) -> Case
+fn again_case(new: &[u8], old: &[u8]) -> Option<Fault>
     requires { (length new.now ≡ 368) × (length old.now ≡ 368) }
     ensures { result ≡ fault_if (not (grant_eqb (grant_by (decode new.now)) (grant_by (decode old.now)))) (fault 1 ((decode new.now).b ∷ [])) }
 {
     if same_grant(new, old) {
-        return Case::Clear;
+        return None;
     }
     fault_of(1, b(new), 0)
 }
 
 // The case of a first grant. A block above every older one shares no id with any, and needs no walk.
-fn first_case(log: &[u8], work: &[u64], count: usize, cap: usize, rec: &[u8]) -> Case
+fn first_case(log: &[u8], work: &[u64], count: usize, cap: usize, rec: &[u8]) -> Option<Fault>
     requires { Bounds log.now work.now count cap × (length rec.now ≡ 368) }
     ensures { IdsIndexed cap (hist log.now count) work.now → result ≡ first_fault (grant_by (decode rec.now)) (blocks_of (hist log.now count)) }
 {
@@ -61,22 +61,22 @@ fn first_case(log: &[u8], work: &[u64], count: usize, cap: usize, rec: &[u8]) ->
         return fault_of(2, b(rec), 0);
     }
     if greatest_last(work, cap, count) < first {
-        return Case::Clear;
+        return None;
     }
     let s = shared_with(log, work, count, cap, first, last);
     if s.any {
         return fault_of(3, b(rec), s.top);
     }
-    Case::Clear
+    None
 }
 
 // The ids case of a record over the records taken.
-pub fn ids(log: &[u8], work: &[u64], count: usize, cap: usize, rec: &[u8]) -> Case
+pub fn ids(log: &[u8], work: &[u64], count: usize, cap: usize, rec: &[u8]) -> Option<Fault>
     requires { Bounds log.now work.now count cap × (length rec.now ≡ 368) }
     ensures { FirstsIndexed cap (hist log.now count) work.now → IdsIndexed cap (hist log.now count) work.now → result ≡ ids_at (decode rec.now) (hist log.now count) }
 {
     if kind(rec) != 11 {
-        return Case::Clear;
+        return None;
     }
     let n = grant_at(log, work, count, cap, b(rec));
     if n == 0 {

@@ -1,5 +1,6 @@
 -- The row of a check after one more record, for any check of the table: left by a record that does not concern it, kept after a fault,
 -- else entered. Assumes nothing.
+use Rattle.std.specs.Prelude.{None, Some}
 use mathlib.Core.Path.{◌≡◌, refl, sym, ap, ◌∙◌}
 use mathlib.Core.Bool.{true, false}
 use mathlib.Core.List.{List, ◌∷◌}
@@ -10,8 +11,7 @@ use lib.Seq.{sets, set-get_or, length-sets}
 use lib.Dec.{eqb}
 use borrow.Author.Tests.{eqb-true, eqb-false}
 use Rattle.record.specs.Records.{TraceRecord, decode}
-use Rattle.rules.specs.declared.Case.{Case}
-use Rattle.rules.specs.declared.Case.TheVariants.{Clear, Fault}
+use Rattle.rules.specs.Cases.{Case}
 use Rattle.rules.specs.declared.Opening.{Opening}
 use Rattle.rules.specs.declared.Report.{Report}
 use Rattle.rules.specs.declared.Verdict.{Verdict}
@@ -74,19 +74,19 @@ module _ (k : ℕ) (l : k < check_count) (o : Opening) (x : TraceRecord) (h : Hi
 
   entered_by : (c : Case) → case_at o (check_at k) (x ∷ h) ≡ c → (report_by o h (check_at k)).verdict ≡ Pass
       → entered_in rows k c (position (x ∷ h)) ≡ rows_of (set rs k (report_by o (x ∷ h) (check_at k)))
-  entered_by Clear e v = stays (unmoved (case_at o (check_at k)) x h e)
-  entered_by (Fault kind w) e v =
+  entered_by None e v = stays (unmoved (case_at o (check_at k)) x h e)
+  entered_by (Some w) e v =
       let f = case_at o (check_at k) in
       let n = position (x ∷ h) in
-      let r : report_of f (x ∷ h) ≡ faulted n kind w = report_of_step f x h ∙ (λ i. at_first (v i) (report_of f h) (e i) n) in
-      ap (λ (t : List ℕ). sets t (7 * k) (report_words (faulted n kind w))) are
-      ∙ rows_set rs k (faulted n kind w) (omega arith)
+      let r : report_of f (x ∷ h) ≡ faulted n w.kind w.evidence = report_of_step f x h ∙ (λ i. at_first (v i) (report_of f h) (e i) n) in
+      ap (λ (t : List ℕ). sets t (7 * k) (report_words (faulted n w.kind w.evidence))) are
+      ∙ rows_set rs k (faulted n w.kind w.evidence) (omega arith)
       ∙ ap (λ (z : Report). rows_of (set rs k z)) (sym r)
 
 -- entering a case leaves the number of words
 entered_size : (rows : List ℕ) (k : ℕ) (c : Case) (n : ℕ) → length (entered_in rows k c n) ≡ length rows
-entered_size rows k Clear n = refl
-entered_size rows k (Fault kind e) n = length-sets rows (7 * k) (report_words (faulted n kind e))
+entered_size rows k None n = refl
+entered_size rows k (Some f) n = length-sets rows (7 * k) (report_words (faulted n f.kind f.evidence))
 
 -- ---- the three ways of a check's step
 

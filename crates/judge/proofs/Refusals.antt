@@ -4,8 +4,7 @@ use mathlib.Core.Bool.{false}
 use lib.Dec.{eqb}
 use Rattle.judge.specs.States.{refusal_number}
 use Rattle.judge.specs.declared.state.Refusal.{Refusal}
-use Rattle.judge.specs.declared.state.Refusal.TheVariants.{Nothing, Length, Kind, Value, Unused, Judge as Unfit, Full, Opening, Output}
-use Rattle.judge.specs.declared.state.Refusal.TheVariants.{Ticket as Stale, Event}
+use Rattle.judge.specs.declared.state.Refusal.TheVariants.{Nothing, Length, Kind, Value, Unused, Judge as Unfit, Full, Opening, Output, Ticket as Stale, Event}
 
 -- a refusal that is not `Nothing` has a number that is not 0
 pub refuses : (f : Refusal) → (f ≡ Nothing → ⊥) → eqb (refusal_number f) 0 ≡ false

@@ -1,7 +1,6 @@
 -- What a look-up gives: "look-ups test 5, then 8".
-use Rattle.std.specs.Prelude.{◌≡◌, Bool, true, false, cond, List, [], ◌++◌, ◌⊎◌, ℕ, length, drop}
-use Rattle.rules.specs.declared.Found.{Found}
-use Rattle.rules.specs.declared.Found.TheVariants.{At as Number, Nothing}
+use Rattle.std.specs.Prelude.{◌≡◌, Bool, true, false, cond, List, [], ◌++◌, ◌⊎◌, ℕ, length, drop, Some, None}
+use Rattle.rules.specs.Answers.{Found}
 use Rattle.rules.specs.History.{History}
 use Rattle.rules.specs.Descriptors.{before, at, first_at_generation, statements, is_empty}
 use Rattle.rules.specs.IdsUnique.{blocks, holders_of}
@@ -20,8 +19,8 @@ use Rattle.intake.specs.Words.{Indexed}
 
 -- the number of the record that was found, 0 for none
 abbrev pub found_number : Found → ℕ
-found_number (Number n) = n
-found_number Nothing = 0
+found_number (Some n) = n
+found_number None = 0
 
 -- 1 for what holds, else 0
 abbrev pub truth : Bool → ℕ

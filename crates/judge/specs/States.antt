@@ -3,8 +3,7 @@ use Rattle.std.specs.Prelude.{Bool, cond, List, ℕ, length, eqb}
 use Rattle.decision.specs.Refusals.{suits_by, push_refusal_by}
 use Rattle.judge.specs.declared.state.Judge.{Judge}
 use Rattle.judge.specs.declared.state.Refusal.{Refusal}
-use Rattle.judge.specs.declared.state.Refusal.TheVariants.{Nothing, Length, Kind, Value, Unused, Judge as Unfit, Full, Opening, Output}
-use Rattle.judge.specs.declared.state.Refusal.TheVariants.{Ticket as Stale, Event}
+use Rattle.judge.specs.declared.state.Refusal.TheVariants.{Nothing, Length, Kind, Value, Unused, Judge as Unfit, Full, Opening, Output, Ticket as Stale, Event}
 use Rattle.judge.specs.declared.ticket.Ticket.{Ticket}
 
 -- a judge with the log and the work area that it is lent

@@ -7,7 +7,6 @@ use crate::state::{Judge, Refusal};
 use descriptors::cells::{is_empty, statements};
 use descriptors::value::{at, before, first_at_generation};
 use ids_unique::list::{Listed, blocks, holders_of};
-use rules::Found;
 
 // What can be asked of the records taken, by the names of the Rust. The last two write a list.
 #[derive(Clone, Copy)]
@@ -31,12 +30,12 @@ pub struct Looked {
 }
 
 // The number of the record found, 0 for none.
-fn found_number(found: Found) -> usize
+fn found_number(found: Option<u64>) -> usize
     ensures { result ≡ found_number found }
 {
     match found {
-        Found::At(number) => number as usize,
-        Found::Nothing => 0,
+        Some(number) => number as usize,
+        None => 0,
     }
 }
 

@@ -6,12 +6,10 @@ use Rattle.std.specs.Prelude.{Option, None, Some}
 use Prim.Native.Nat.{ℕ, zero, suc, ◌<◌}
 use native.Mathlib.Omega.{arith}
 use Rattle.record.specs.Records.{TraceRecord, decode}
-use Rattle.rules.specs.Cases.{fault, fault_if}
+use Rattle.rules.specs.Cases.{fault, fault_if, Case}
 use Rattle.rules.specs.Descriptors.{Held, Entry, held_by, tells_put, standing, same_place, named_eqb, first_at_generation}
 use Rattle.rules.specs.MetaNeverGoesBack.{differs_from, named_fault}
-use Rattle.rules.specs.declared.Case.{Case}
-use Rattle.rules.specs.declared.Found.{Found}
-use Rattle.rules.specs.declared.Found.TheVariants.{At, Nothing}
+use Rattle.rules.specs.Answers.{Found}
 use Rattle.record.proofs.Booleans.{none_some}
 use Rattle.rules.proofs.Firsts.{ToldBy, now, before, told_by, firsts_told}
 use Rattle.rules.proofs.LookUps.{Looked, Soonest, Having, first_at_generation_right}
@@ -84,10 +82,10 @@ module _ (x : TraceRecord) (log : List ℕ) where
     e : f ≡ found_by (first_at_generation x.a x.d (hist log n))
     e = g ∙ ap (λ (m : ℕ). found_by (first_at_generation m generation (hist log n))) a ∙ ap (λ (m : ℕ). found_by (first_at_generation x.a m (hist log n))) d
 
-    none_at : {number : ℕ} {r : Case} → found_by None ≡ At number → r ≡ named_fault x None
+    none_at : {number : ℕ} {r : Case} → found_by None ≡ Some number → r ≡ named_fault x None
     none_at q = absurd (let z : ◌≡◌ {A = ℕ} 0 1 = cc in omega arith)
 
-    by_entry : (v : Entry) {number : ℕ} {r : Case} → PutAt log n v → found_by (Some v) ≡ At number
+    by_entry : (v : Entry) {number : ℕ} {r : Case} → PutAt log n v → found_by (Some v) ≡ Some number
         → ((k : ℕ) → number ≡ suc k → k < n → r ≡ by_test (differs_from x (held_by (record_at log k))))
         → r ≡ named_fault x (Some v)
     by_entry v {number} p q t =
@@ -95,7 +93,7 @@ module _ (x : TraceRecord) (log : List ℕ) where
         t p.place (sym z ∙ p.number) p.below ∙ ap (λ (w : Held). by_test (differs_from x w)) (sym p.held)
 
     -- the look-up gave a number
-    pub named_at : {number : ℕ} {r : Case} → f ≡ At number
+    pub named_at : {number : ℕ} {r : Case} → f ≡ Some number
         → ((k : ℕ) → number ≡ suc k → k < n → r ≡ by_test (differs_from x (held_by (record_at log k))))
         → r ≡ named_fault x (first_at_generation x.a x.d (hist log n))
     named_at {number} {r} q t = go (first_at_generation x.a x.d (hist log n)) refl
@@ -105,9 +103,9 @@ module _ (x : TraceRecord) (log : List ℕ) where
         go (Some v) u = by_entry v (found_at_lem x.a x.d log n v u) (ap found_by (sym u) ∙ sym e ∙ q) t
 
     -- it gave nothing
-    pub named_none : {r : Case} → f ≡ Nothing → r ≡ fault 1 (x.a ∷ x.d ∷ x.b ∷ []) → r ≡ named_fault x (first_at_generation x.a x.d (hist log n))
+    pub named_none : {r : Case} → f ≡ None → r ≡ fault 1 (x.a ∷ x.d ∷ x.b ∷ []) → r ≡ named_fault x (first_at_generation x.a x.d (hist log n))
     named_none {r} q t = go (first_at_generation x.a x.d (hist log n)) refl
       where
         go : (o : Option Entry) → first_at_generation x.a x.d (hist log n) ≡ o → r ≡ named_fault x o
         go None u = t
-        go (Some v) u = let z : At v.number ≡ Nothing = ap found_by (sym u) ∙ sym e ∙ q in absurd (let y : ◌≡◌ {A = ℕ} 0 1 = cc in omega arith)
+        go (Some v) u = let z : Some v.number ≡ None = ap found_by (sym u) ∙ sym e ∙ q in absurd (let y : ◌≡◌ {A = ℕ} 0 1 = cc in omega arith)

@@ -1,4 +1,5 @@
 -- Where no name can be in conflict with a new one, or one covers it, there is no faulty key: so most walks are spared.
+use Rattle.std.specs.Prelude.{None}
 use mathlib.Core.Path.{◌≡◌, refl, sym, ap, ◌∙◌}
 use mathlib.Core.Bool.{Bool, true, false, cond, ◌||◌, not, ◌&&◌}
 use mathlib.Core.List.{List, ◌∷◌}
@@ -8,13 +9,11 @@ use borrow.Author.Tests.{not-true, ltb-true, ltb-false, lt-ltb, le-ltb, leb-true
 use Rattle.record.specs.Keys.{Key, key_ltb, Lt, Le}
 use Rattle.record.specs.Records.{TraceRecord, decode}
 use Rattle.record.proofs.Keys.{le_lt_lt}
-use Rattle.rules.specs.Cases.{is_fault, fault_if}
+use Rattle.rules.specs.Cases.{is_fault, fault_if, Case}
 use Rattle.rules.specs.Descriptors.{span_of}
 use Rattle.rules.specs.History.{History, any_of}
 use Rattle.rules.specs.MetaNeverGoesBack.{Name, covers, name_fault, won_fault, name_by, names, meta_at}
 use Rattle.rules.specs.Reports.{at_last, report_of}
-use Rattle.rules.specs.declared.Case.{Case}
-use Rattle.rules.specs.declared.Case.TheVariants.{Clear}
 use Rattle.rules.specs.declared.Verdict.TheVariants.{Pass}
 use Rattle.record.proofs.Booleans.{and_left, and_right}
 use Rattle.rules.proofs.Members.{Mem, here, there, any_of_none}
@@ -62,7 +61,7 @@ drop_meets : (a m : Bool) → (a && m) ≡ false → m ≡ true → a ≡ false
 drop_meets true m e f = sym f ∙ e
 drop_meets false m e f = refl
 
-spared : (x : TraceRecord) (ns : List Name) → any_of (opposes x) ns ≡ false → won_fault x ns ≡ Clear
+spared : (x : TraceRecord) (ns : List Name) → any_of (opposes x) ns ≡ false → won_fault x ns ≡ None
 spared x ns e =
     names_clear x ns
     (λ k a b n m c. fault_against x n ∙ drop_meets (against x n) (meets x n) (any_of_none (opposes x) ns e n m) (does_meet x n k a b c))
@@ -75,7 +74,7 @@ module _ (x : TraceRecord) (o : Name) (e : covers_all x o ≡ true) where
   keys : contains x o ≡ true
   keys = and_right (not_lower x o) (contains x o) e
 
-  spared_covered : (h : History) → Passes h → Mem o (names h) → won_fault x (names h) ≡ Clear
+  spared_covered : (h : History) → Passes h → Mem o (names h) → won_fault x (names h) ≡ None
   spared_covered h p i =
       covered_clear x h p i
       (leb-true x.b o.index (and_left (leb x.b o.index) (leb x.d o.generation) numbers))
@@ -90,7 +89,7 @@ module _ {x : TraceRecord} {log : List ℕ} where
   passed_first d = record { here = d.here; same = ap (any_of (opposes x)) d.same; among = λ o m. rw d.same m }
 
   module _ {n i : ℕ} (w : Passed x log n i) where
-    pub passed_end : i ≡ 0 → won_fault x (names (hist log n)) ≡ Clear
+    pub passed_end : i ≡ 0 → won_fault x (names (hist log n)) ≡ None
     passed_end e = spared x (names (hist log n)) (w.same ∙ ap (any_of (opposes x)) (names_end log e) ∙ any_of_nil (opposes x))
 
     module _ (l : 0 < i) {old : List ℕ} (r : old ≡ bytes_at (i - 1) log) where
@@ -105,7 +104,7 @@ module _ {x : TraceRecord} {log : List ℕ} where
 
       -- the next one covers the new one; it does not oppose it; the new one surpasses it
       pub passed_covered : {t : Bool} → t ≡ covers_all x (name_by (decode old)) → t ≡ true → (report_of (at_last meta_at) (hist log n)).verdict ≡ Pass
-          → won_fault x (names (hist log n)) ≡ Clear
+          → won_fault x (names (hist log n)) ≡ None
       passed_covered e q p = spared_covered x next (tested (covers_all x) e q) (hist log n) p (w.among next (rw left here))
 
       pub passed_by : {j : ℕ} → opposes x next ≡ false → Down log (i - 1) j → Passed x log n j

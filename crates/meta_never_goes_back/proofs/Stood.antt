@@ -8,9 +8,8 @@ use native.Mathlib.Numerals.{add-one}
 use native.Mathlib.Omega.{arith}
 use Rattle.record.specs.Keys.{Key}
 use Rattle.record.specs.Records.{TraceRecord, decode}
-use Rattle.rules.specs.Cases.{case_of}
+use Rattle.rules.specs.Cases.{case_of, Case}
 use Rattle.rules.specs.MetaNeverGoesBack.{Name, name_by, covers, standing_name, name_fault}
-use Rattle.rules.specs.declared.Case.{Case}
 use Rattle.history.specs.Logs.{bytes_at, record_at}
 use Rattle.history.proofs.Logs.{record_bytes}
 use Rattle.history.specs.Weighing.{greater_of}

@@ -12,20 +12,20 @@ ghost use Rattle.meta_never_goes_back.specs.Columns.{MetaIndexed};
 use crate::descriptor::descriptor_case;
 use crate::walk::won_case;
 use record::field::kind;
-use rules::Case;
+use rules::Fault;
 
 // The meta case of a record over those of the log, while the report is a pass: its descriptor first, then the keys that it
 // won.
-pub fn meta<'a>(log: &'a [u8], work: &[u64], count: usize, cap: usize, rec: &'a [u8]) -> Case
+pub fn meta<'a>(log: &'a [u8], work: &[u64], count: usize, cap: usize, rec: &'a [u8]) -> Option<Fault>
     requires { Bounds log.now work.now count cap × (length rec.now ≡ 368) }
     ensures { DescriptorsIndexed cap (hist log.now count) work.now → MetaIndexed cap (hist log.now count) work.now → (report_of (at_last meta_at) (hist log.now count)).verdict ≡ Pass → result ≡ meta_at (decode rec.now) (hist log.now count) }
 {
     if kind(rec) != 12 {
-        return Case::Clear;
+        return None;
     }
     let descriptor = descriptor_case(log, work, count, cap, rec);
     match descriptor {
         Case::Fault(kind, evidence) => Case::Fault(kind, evidence),
-        Case::Clear => won_case(log, work, count, cap, rec),
+        None => won_case(log, work, count, cap, rec),
     }
 }

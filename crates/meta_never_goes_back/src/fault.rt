@@ -5,10 +5,10 @@ ghost use Rattle.rules.specs.Cases.{fault};
 ghost use Rattle.rules.specs.MetaNeverGoesBack.{name_by, name_fault};
 
 use record::field::{a, b, d};
-use rules::{Case, Evidence};
+use rules::{Fault, Evidence};
 
 // Kinds 1 and 2: range, generation, index.
-pub fn descriptor_fault(kind: u8, rec: &[u8]) -> Case
+pub fn descriptor_fault(kind: u8, rec: &[u8]) -> Option<Fault>
     requires { length rec.now ≡ 368 }
     ensures { result ≡ fault kind ((decode rec.now).a ∷ (decode rec.now).d ∷ (decode rec.now).b ∷ []) }
 {
@@ -26,7 +26,7 @@ pub fn descriptor_fault(kind: u8, rec: &[u8]) -> Case
 
 // Kinds 3 and 4, of a key that a record wins and another named: index, range, generation, old generation, and for kind 4
 // the standing index.
-pub fn name_fault(rec: &[u8], old: &[u8]) -> Case
+pub fn name_fault(rec: &[u8], old: &[u8]) -> Option<Fault>
     requires { (length rec.now ≡ 368) × (length old.now ≡ 368) }
     ensures { result ≡ name_fault (decode rec.now) (name_by (decode old.now)) }
 {
@@ -47,7 +47,7 @@ pub fn name_fault(rec: &[u8], old: &[u8]) -> Case
                 },
             );
         }
-        return Case::Clear;
+        return None;
     }
     if old_generation < generation {
         return Case::Fault(
@@ -61,5 +61,5 @@ pub fn name_fault(rec: &[u8], old: &[u8]) -> Case
             },
         );
     }
-    Case::Clear
+    None
 }

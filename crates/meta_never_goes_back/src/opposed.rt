@@ -1,8 +1,7 @@
 // The names that can be in conflict with a new one: most records have none, and need no walk. The scan for one is short
 // where a recent name covers the new one.
-ghost use Rattle.std.specs.Prelude.{◌≡◌, false, ◌&&◌, ◌||◌, ℕ, ◌*◌, ◌≤◌, ltb, leb, length};
+ghost use Rattle.std.specs.Prelude.{◌≡◌, false, ◌&&◌, ◌||◌, ℕ, ◌*◌, ◌≤◌, ltb, leb, length, None};
 ghost use Rattle.record.specs.Records.{decode};
-ghost use Rattle.rules.specs.declared.Case.TheVariants.{Clear};
 ghost use Rattle.rules.specs.declared.Verdict.TheVariants.{Pass};
 ghost use Rattle.rules.specs.MetaNeverGoesBack.{name_by, names, won_fault, meta_at};
 ghost use Rattle.rules.specs.Reports.{at_last, report_of};
@@ -123,7 +122,7 @@ pub fn is_highest(log: &[u8], work: &[u64], count: usize, cap: usize, rec: &[u8]
 // either; most names repeat a recent one.
 pub fn any_opposed(log: &[u8], work: &[u64], count: usize, cap: usize, rec: &[u8]) -> bool
     requires { Bounds log.now work.now count cap × (length rec.now ≡ 368) }
-    ensures { MetaIndexed cap (hist log.now count) work.now → (report_of (at_last meta_at) (hist log.now count)).verdict ≡ Pass → result ≡ false → won_fault (decode rec.now) (names (hist log.now count)) ≡ Clear }
+    ensures { MetaIndexed cap (hist log.now count) work.now → (report_of (at_last meta_at) (hist log.now count)).verdict ≡ Pass → result ≡ false → won_fault (decode rec.now) (names (hist log.now count)) ≡ None }
 {
     let mut i = skip_surpassed(log, work, cap, name_before(work, cap, count), rec);
     while 0 < i {

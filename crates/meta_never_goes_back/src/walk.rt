@@ -19,7 +19,7 @@ use history::log::record_at;
 use history::span::{end_of, start_of};
 use record::field::b;
 use record::key::key_less;
-use rules::{Case, is_fault};
+use rules::Fault;
 
 // Whether a record's won span has a key.
 fn does_cover(old: &[u8], key: &[u8]) -> bool
@@ -65,19 +65,19 @@ fn nearer<'a>(c: &[u8], x: &'a [u8], b: &'a [u8]) -> &'a [u8]
 }
 
 // The case of a key by the number of the name that stands there.
-fn key_case(log: &[u8], standing: usize, rec: &[u8]) -> Case
+fn key_case(log: &[u8], standing: usize, rec: &[u8]) -> Option<Fault>
     requires { (368 * standing ≤ length log.now) × (length rec.now ≡ 368) }
     ensures { result ≡ case_of (name_fault (decode rec.now)) (name_no log.now standing) }
 {
     if standing == 0 {
-        return Case::Clear;
+        return None;
     }
     name_fault(rec, record_at(log, standing - 1))
 }
 
 // The fault of the won span: piece by piece in key order, each against the name that stands there, up to the first faulty
 // one. A piece begins at the cursor and goes up to the next end of a name.
-fn walk_case<'a>(log: &'a [u8], work: &[u64], count: usize, cap: usize, rec: &'a [u8]) -> Case
+fn walk_case<'a>(log: &'a [u8], work: &[u64], count: usize, cap: usize, rec: &'a [u8]) -> Option<Fault>
     requires { Bounds log.now work.now count cap × (length rec.now ≡ 368) }
     ensures { MetaIndexed cap (hist log.now count) work.now → result ≡ won_fault (decode rec.now) (names (hist log.now count)) }
 {
@@ -86,7 +86,7 @@ fn walk_case<'a>(log: &'a [u8], work: &[u64], count: usize, cap: usize, rec: &'a
     let mut cur: &[u8] = start;
     'walk: loop {
         if !key_less(cur, end) {
-            break 'walk Case::Clear;
+            break 'walk None;
         }
         let mut standing = 0usize;
         let mut next: &[u8] = end;
@@ -112,15 +112,15 @@ fn walk_case<'a>(log: &'a [u8], work: &[u64], count: usize, cap: usize, rec: &'a
 }
 
 // The case of the keys that a record wins, while the report is a pass.
-pub fn won_case<'a>(log: &'a [u8], work: &[u64], count: usize, cap: usize, rec: &'a [u8]) -> Case
+pub fn won_case<'a>(log: &'a [u8], work: &[u64], count: usize, cap: usize, rec: &'a [u8]) -> Option<Fault>
     requires { Bounds log.now work.now count cap × (length rec.now ≡ 368) }
     ensures { MetaIndexed cap (hist log.now count) work.now → (report_of (at_last meta_at) (hist log.now count)).verdict ≡ Pass → result ≡ fault_if (is_won (decode rec.now)) (won_fault (decode rec.now) (names (hist log.now count))) }
 {
     if !is_won(rec) {
-        return Case::Clear;
+        return None;
     }
     if !any_opposed(log, work, count, cap, rec) {
-        return Case::Clear;
+        return None;
     }
     walk_case(log, work, count, cap, rec)
 }

@@ -9,10 +9,8 @@ use lib.ListN.{length}
 use lib.Dec.{eqb}
 use borrow.Author.Tests.{lt-ltb, le-ltb, eq-eqb, ne_eqb}
 use Rattle.record.specs.declared.named.NodeId.{NodeId}
-use Rattle.record.specs.declared.named.Node.TheVariants.{Marked}
 use Rattle.record.specs.Records.{Span, TraceRecord}
-use Rattle.rules.specs.declared.Found.{Found}
-use Rattle.rules.specs.declared.Found.TheVariants.{At, Nothing}
+use Rattle.rules.specs.Answers.{Found, found_at}
 use Rattle.rules.specs.History.{History, is_kind, is_by, holds, lower}
 use Rattle.rules.specs.Descriptors.{span_of}
 use Rattle.rules.specs.OneOwnerPerKey.{is_holding, hold_of, has_hold}
@@ -20,7 +18,6 @@ use Rattle.history.specs.Logs.{record_at, hist}
 use Rattle.one_owner_per_key.specs.Numbers.{ends_all, latest_end, latest_hold, hold_number, latest_newly}
 use Rattle.one_owner_per_key.specs.Columns.{bit, newly_cell, ended_cell}
 use Rattle.one_owner_per_key.specs.Answers.{is_below}
-use Rattle.rules.specs.Answers.{found_at}
 use Rattle.record.proofs.Booleans.{never}
 use Rattle.rules.proofs.Marks.{by_itself}
 use Rattle.one_owner_per_key.proofs.Latest.{number_step}
@@ -44,19 +41,19 @@ module _ (node range : ℕ) (log : List ℕ) (n : ℕ) {k ended : ℕ} (ek : k �
 
 -- ---- what was found
 
-found_case : (n k : ℕ) → found_at n ≡ At k → not (eqb n 0) ≡ true
+found_case : (n k : ℕ) → found_at n ≡ Some k → not (eqb n 0) ≡ true
 found_case zero k h = let z : ◌≡◌ {A = ℕ} 0 1 = cc in absurd (omega arith)
 found_case (suc n) k h = ap not (ne_eqb (suc n) 0 (λ q. omega arith))
 
-lost_case : (n : ℕ) → found_at n ≡ Nothing → not (eqb n 0) ≡ false
+lost_case : (n : ℕ) → found_at n ≡ None → not (eqb n 0) ≡ false
 lost_case zero h = refl
 lost_case (suc n) h = let z : ◌≡◌ {A = ℕ} 0 1 = cc in absurd (omega arith)
 
 module _ (node range : ℕ) (h : History) {f : Found} (e : f ≡ found_at (hold_number node range h)) where
-  pub found_held : {k : ℕ} → f ≡ At k → has_hold node range h ≡ true
+  pub found_held : {k : ℕ} → f ≡ Some k → has_hold node range h ≡ true
   found_held {k} g = held_some node range h ∙ found_case (hold_number node range h) k (sym e ∙ g)
 
-  pub lost_held : f ≡ Nothing → has_hold node range h ≡ false
+  pub lost_held : f ≡ None → has_hold node range h ≡ false
   lost_held g = held_some node range h ∙ lost_case (hold_number node range h) (sym e ∙ g)
 
 -- ---- a span that meets the one held
@@ -121,7 +118,7 @@ module _ (node : ℕ) (x : TraceRecord) (h : History) {p : Bool} (ep : p ≡ is_
         let g : has_hold node range h ≡ true = held_over node range h ek z in
         rw (q, ← er, g)
 
-module _ (n : NodeId) (x : TraceRecord) (h : History) (m : x.node ≡ Marked n) where
+module _ (n : NodeId) (x : TraceRecord) (h : History) (m : x.node ≡ Some n) where
   is_marked : is_by n.0 x ≡ true
   is_marked = by_itself n x m
 

@@ -8,7 +8,6 @@ use Prim.Native.Nat.{ℕ, ◌+◌, ◌*◌, ◌≤◌, ◌<◌}
 use native.Mathlib.Omega.{arith}
 use lib.ListN.{length, get_or}
 use Rattle.record.specs.declared.named.NodeId.{NodeId}
-use Rattle.record.specs.declared.named.Node.TheVariants.{Marked, Missing}
 use Rattle.record.specs.Records.{TraceRecord}
 use Rattle.rules.specs.History.{History}
 use Rattle.history.specs.Buckets.{bucket_by, bucket_by_two}
@@ -31,7 +30,7 @@ owners_clear z = record {
 
 -- ---- a record without a node
 
-module _ (cap : ℕ) (h : History) (x : TraceRecord) (m : x.node ≡ Missing) where
+module _ (cap : ℕ) (h : History) (x : TraceRecord) (m : x.node ≡ None) where
   no_hold : by_hold cap x h ≡ None
   unfolding by_hold
   no_hold = rw m
@@ -98,7 +97,7 @@ same_above l k = record { word = λ j m. k.outside _ (inr (omega arith)) }
 -- ---- a marked record
 
 -- the share of a mixed number
-module _ (cap : ℕ) (h : History) (x : TraceRecord) (n : NodeId) (m : x.node ≡ Marked n) where
+module _ (cap : ℕ) (h : History) (x : TraceRecord) (n : NodeId) (m : x.node ≡ Some n) where
   hold_in : is_chained x ≡ true → by_hold cap x h ≡ Some (bucket_by_two cap n.0 x.a)
   unfolding by_hold
   hold_in e = rw (m, e)
@@ -121,7 +120,7 @@ module _ (cap : ℕ) (h : History) (x : TraceRecord) (n : NodeId) (m : x.node �
       → EnteredIf (is_chained x) work work₁ (16 * cap) (17 * cap) count (bucket_by_two cap n.0 x.a)
       → (b ≡ bucket_by cap n.0) × (b < cap) → Entered work₁ work₂ (18 * cap) (19 * cap) count b
       → Put work₂ work₃ (20 * cap + count) v → Put work₃ work' (21 * cap + count) w
-      → (OwnersIndexed cap h work → x.node ≡ Marked n → (v ≡ newly_cell x h) × (w ≡ ended_cell x h))
+      → (OwnersIndexed cap h work → x.node ≡ Some n → (v ≡ newly_cell x h) × (w ≡ ended_cell x h))
       → OwnersNoted cap h x work work'
   noted_marked {count} {b} {v} {w} {work} {work₁} {work₂} {work₃} {work'} len l p0 bb p1 p2 p3 cells =
       let d = two_below cap n.0 x.a (omega arith) in

@@ -1,7 +1,6 @@
 -- The columns that `OneOwnerPerKey` owns in the work area, each word a written function of the history.
 use Rattle.std.specs.Prelude.{◌≡◌, Bool, true, false, cond, ◌&&◌, ◌||◌, List, ◌∷◌, ℕ, ◌+◌, ◌-◌, ◌*◌, ◌/◌, ◌%◌, ◌≤◌, ◌<◌, length, get_or, eqb, Option, None, Some}
-use Rattle.record.specs.declared.named.Node.{Node}
-use Rattle.record.specs.declared.named.Node.TheVariants.{Marked, Missing}
+use Rattle.record.specs.Named.{Node}
 use Rattle.record.specs.Records.{TraceRecord}
 use Rattle.rules.specs.History.{History, Tells, is_kind, when}
 use Rattle.history.specs.Buckets.{bucket_by, bucket_by_two}
@@ -18,16 +17,16 @@ is_chained x = is_kind 1 x || is_kind 2 x || is_kind 7 x || is_kind 9 x || (is_k
 
 -- the bucket of a record by its node: none without one
 abbrev pub hold_bucket : ℕ → TraceRecord → Node → Option ℕ
-hold_bucket cap x Missing = None
-hold_bucket cap x (Marked n) = when (is_chained x) (bucket_by_two cap n.0 x.a)
+hold_bucket cap x None = None
+hold_bucket cap x (Some n) = when (is_chained x) (bucket_by_two cap n.0 x.a)
 
 unfoldable pub by_hold : ℕ → Tells ℕ
 by_hold cap x h = hold_bucket cap x x.node
 
 -- every marked record, by its node
 abbrev pub node_of : ℕ → Node → Option ℕ
-node_of cap Missing = None
-node_of cap (Marked n) = Some (bucket_by cap n.0)
+node_of cap None = None
+node_of cap (Some n) = Some (bucket_by cap n.0)
 
 unfoldable pub by_owner : ℕ → Tells ℕ
 by_owner cap x h = node_of cap x.node
@@ -36,8 +35,8 @@ by_owner cap x h = node_of cap x.node
 
 -- a marked record's word by its node, 0 of an unmarked one
 abbrev pub word_by : (ℕ → ℕ) → Node → ℕ
-word_by f Missing = 0
-word_by f (Marked n) = f n.0
+word_by f None = 0
+word_by f (Some n) = f n.0
 
 -- a test as a number
 abbrev pub bit : Bool → ℕ

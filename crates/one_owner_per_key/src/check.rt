@@ -12,11 +12,11 @@ use crate::held::{held_by, is_holding};
 use crate::meeting::{Meeting, Others, lowest_meeting};
 use history::span::start_of;
 use record::field;
-use record::named::{Node, NodeId};
-use rules::{Case, Evidence, Found, is_fault};
+use record::named::NodeId;
+use rules::{Fault, Evidence};
 
 // A fault of kind 1, with the node's number first.
-fn fault_of(node: NodeId, e1: u64, e2: u64) -> Case
+fn fault_of(node: NodeId, e1: u64, e2: u64) -> Option<Fault>
     ensures { result ≡ Case.Fault 1 (record { e0 = node.0; e1 = e1; e2 = e2; e3 = 0; e4 = 0 }) }
 {
     Case::Fault(
@@ -32,22 +32,22 @@ fn fault_of(node: NodeId, e1: u64, e2: u64) -> Case
 }
 
 // overlap: the range that the record makes its node hold, over a span that meets that of another. The Rust's `hold`.
-pub fn overlap(log: &[u8], work: &[u64], count: usize, cap: usize, rec: &[u8]) -> Case
+pub fn overlap(log: &[u8], work: &[u64], count: usize, cap: usize, rec: &[u8]) -> Option<Fault>
     requires { Bounds log.now work.now count cap × (length rec.now ≡ 368) }
     ensures { OwnersIndexed cap (hist log.now count) work.now → result ≡ overlap_at (decode rec.now) (hist log.now count) }
 {
     let marked = field::node(rec);
-    let Node::Marked(node) = marked else {
-        return Case::Clear;
+    let Some(node) = marked else {
+        return None;
     };
     if !is_holding(rec) {
-        return Case::Clear;
+        return None;
     }
     let range = field::a(rec);
     let met = lowest_meeting(log, work, count, cap, node, rec, 0, Others::Than(range));
     match met {
         Meeting::Range(other) => fault_of(node, range, other),
-        Meeting::Apart => Case::Clear,
+        Meeting::Apart => None,
     }
 }
 
@@ -61,13 +61,13 @@ fn replaced_case(
     tenant: u64,
     node: NodeId,
     k: usize,
-) -> Case
+) -> Option<Fault>
     requires { Bounds log.now work.now count cap × ((length rec.now ≡ 368) × (k < 4)) }
     ensures { OwnersIndexed cap (hist log.now count) work.now → result ≡ install_fault tenant (decode rec.now) (hist log.now count) node.0 (span_of k (decode rec.now)) }
 {
     let named = group_of(start_of(rec, k), tenant);
     if let Group::Named(_) = named {
-        return Case::Clear;
+        return None;
     }
     let met = lowest_meeting(
         log,
@@ -81,21 +81,21 @@ fn replaced_case(
     );
     match met {
         Meeting::Range(range) => fault_of(node, range, 0),
-        Meeting::Apart => Case::Clear,
+        Meeting::Apart => None,
     }
 }
 
 // install: the first span of a kind 8 that names no group and meets a range that no start in the record names.
-pub fn install(log: &[u8], work: &[u64], count: usize, cap: usize, rec: &[u8], tenant: u64) -> Case
+pub fn install(log: &[u8], work: &[u64], count: usize, cap: usize, rec: &[u8], tenant: u64) -> Option<Fault>
     requires { Bounds log.now work.now count cap × (length rec.now ≡ 368) }
     ensures { OwnersIndexed cap (hist log.now count) work.now → result ≡ install_at tenant (decode rec.now) (hist log.now count) }
 {
     let marked = field::node(rec);
-    let Node::Marked(node) = marked else {
-        return Case::Clear;
+    let Some(node) = marked else {
+        return None;
     };
     if field::kind(rec) != 8 {
-        return Case::Clear;
+        return None;
     }
     let n = field::span_count(rec);
     let mut k = 0usize;
@@ -106,25 +106,25 @@ pub fn install(log: &[u8], work: &[u64], count: usize, cap: usize, rec: &[u8], t
         }
         k += 1;
     }
-    Case::Clear
+    None
 }
 
 // twice: a RangeCreated of a range that its node holds already.
-pub fn twice(log: &[u8], work: &[u64], count: usize, cap: usize, rec: &[u8]) -> Case
+pub fn twice(log: &[u8], work: &[u64], count: usize, cap: usize, rec: &[u8]) -> Option<Fault>
     requires { Bounds log.now work.now count cap × (length rec.now ≡ 368) }
     ensures { OwnersIndexed cap (hist log.now count) work.now → result ≡ twice_at (decode rec.now) (hist log.now count) }
 {
     let marked = field::node(rec);
-    let Node::Marked(node) = marked else {
-        return Case::Clear;
+    let Some(node) = marked else {
+        return None;
     };
     if field::kind(rec) != 1 {
-        return Case::Clear;
+        return None;
     }
     let range = field::a(rec);
     let held = held_by(log, work, count, cap, count, node, range);
     match held {
-        Found::At(_) => fault_of(node, range, field::b(rec)),
-        Found::Nothing => Case::Clear,
+        Some(_) => fault_of(node, range, field::b(rec)),
+        None => None,
     }
 }

@@ -13,8 +13,7 @@ ghost use Rattle.rules.specs.Answers.{found_at};
 use crate::cells::{end_by, hold_below, hold_top, node_below, node_top};
 use history::log::record_at;
 use record::field;
-use record::named::{Node, NodeId};
-use rules::Found;
+use record::named::NodeId;
 
 // Whether a record is marked with a node.
 pub fn is_by(rec: &[u8], node: NodeId) -> bool
@@ -22,7 +21,7 @@ pub fn is_by(rec: &[u8], node: NodeId) -> bool
     ensures { result ≡ is_by node.0 (decode rec.now) }
 {
     let marked = field::node(rec);
-    let Node::Marked(n) = marked else {
+    let Some(n) = marked else {
         return false;
     };
     n.0 == node.0
@@ -130,7 +129,7 @@ pub fn held_by(
     top: usize,
     node: NodeId,
     range: u64,
-) -> Found
+) -> Option<u64>
     requires { Bounds log.now work.now count cap × (top ≤ count) }
     ensures { OwnersIndexed cap (hist log.now count) work.now → result ≡ found_at (hold_number node.0 range (hist log.now top)) }
 {
@@ -138,8 +137,8 @@ pub fn held_by(
     let ended = end_by(work, cap, last);
     let k = held_after(log, work, count, cap, top, node, range, ended);
     if k == 0 {
-        Found::Nothing
+        None
     } else {
-        Found::At(k as u64)
+        Some(k as u64)
     }
 }

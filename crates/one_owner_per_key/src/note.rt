@@ -15,7 +15,7 @@ use crate::held::{held_after, is_holding, latest_of};
 use history::chain::{enter, put};
 use history::place::{ENDED_AT, HOLD_HEADS, HOLD_LINKS, NEWLY_HELD, NODE_HEADS, NODE_LINKS};
 use record::field;
-use record::named::{Node, NodeId};
+use record::named::NodeId;
 
 // What is written of a record: whether it newly holds its range, with the one before it that did; its node's latest end.
 #[derive(Clone, Copy)]
@@ -113,7 +113,7 @@ pub fn note(log: &[u8], work: &mut [u64], count: usize, cap: usize, rec: &[u8])
     ensures { OwnersNoted cap (hist log.now count) (decode rec.now) work.old work.new }
 {
     let marked = field::node(rec);
-    let Node::Marked(node) = marked else {
+    let Some(node) = marked else {
         return;
     };
     let cells = cells_of(log, work, count, cap, rec, node);

@@ -19,8 +19,7 @@ use Rattle.tally.proofs.Campaigns.{refusal_of, entry_fits, campaign}
 use Rattle.tally.proofs.Finished.{entry_after, means_after}
 use Rattle.state_words.specs.StateWords.{state_size, judge_in, is_state, state_in}
 use Rattle.petalchurn.specs.Calls.{OpensWords}
-use Rattle.petalchurn.specs.Tallies.{words_refusal, words_left, TalliesWords, HostEntry, HostCampaign, none as done, more as next}
-use Rattle.petalchurn.specs.Tallies.{judges_entered, LibraryEntry}
+use Rattle.petalchurn.specs.Tallies.{words_refusal, words_left, TalliesWords, HostEntry, HostCampaign, none as done, more as next, judges_entered, LibraryEntry}
 use Rattle.petalchurn.specs.Runs.{Buffers, state_at, HostCall, calls_of, HostCalls}
 use Rattle.petalchurn.proofs.Runs.{library_ran, library_demands}
 

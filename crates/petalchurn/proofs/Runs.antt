@@ -49,8 +49,7 @@ use Rattle.petalchurn.specs.declared.answer.Answer.{Answer}
 use Rattle.petalchurn.specs.Calls.{report_size, trace_size, OpensWords, PushesWords, ReportsWords, trace_words, TracesWords}
 use Rattle.petalchurn.specs.Lookups.{AnswersWords, LooksWords}
 use Rattle.petalchurn.specs.Previews.{bytes_of_ticket, ticket_in, roomy, PreviewsWords, CommitsWords}
-use Rattle.petalchurn.specs.Runs.{Buffers, state_at, HostCall, push, commit, preview, commit_of, calls_of, HostCalls, none as done, more as next}
-use Rattle.petalchurn.specs.Runs.{erased_calls, commit_after, LibraryShown, LibraryDemands, refused_piece, LibraryTrace}
+use Rattle.petalchurn.specs.Runs.{Buffers, state_at, HostCall, push, commit, preview, commit_of, calls_of, HostCalls, none as done, more as next, erased_calls, commit_after, LibraryShown, LibraryDemands, refused_piece, LibraryTrace}
 use Rattle.petalchurn.proofs.PreviewLaws.{ticket_back}
 
 -- ---- the calls of a host are the judge's

@@ -1,11 +1,16 @@
--- The named sub-codes of kinds 1, 2 and 3, with document 01's numbers.
-use Rattle.std.specs.Prelude.{cond, ℕ, eqb}
+-- The mark of a node, and the named sub-codes of kinds 1, 2 and 3, with document 01's numbers.
+use Rattle.std.specs.Prelude.{cond, ℕ, eqb, Option}
+use Rattle.record.specs.declared.named.NodeId.{NodeId}
 use Rattle.record.specs.declared.named.RangeCause.{RangeCause}
 use Rattle.record.specs.declared.named.RangeCause.TheVariants.{Bootstrap, Split, Snapshot}
 use Rattle.record.specs.declared.named.RangeState.{RangeState}
 use Rattle.record.specs.declared.named.RangeState.TheVariants.{Live, Merging, Subsumed}
 use Rattle.record.specs.declared.named.ApplyEffect.{ApplyEffect}
 use Rattle.record.specs.declared.named.ApplyEffect.TheVariants.{Applied, OutOfSpan, Frozen, Took, Aborted, Refused, None}
+
+-- the node that wrote a record, where the record is marked with one
+abbrev pub Node : Type 0
+Node = Option NodeId
 
 -- "sub-code 1 Bootstrap, 2 Split, 3 Snapshot"
 abbrev pub cause_number : RangeCause → ℕ

@@ -1,7 +1,6 @@
 -- The decoded record: what the 368 bytes say.
-use Rattle.std.specs.Prelude.{cond, List, [], ◌∷◌, ℕ, zero, suc, ◌+◌, min, eqb}
-use Rattle.record.specs.declared.named.Node.{Node}
-use Rattle.record.specs.declared.named.Node.TheVariants.{Marked, Missing}
+use Rattle.std.specs.Prelude.{cond, List, [], ◌∷◌, ℕ, zero, suc, ◌+◌, min, eqb, Some, None}
+use Rattle.record.specs.Named.{Node}
 use Rattle.record.specs.Limits.{voter_limit, span_limit, voters_at, spans_at}
 use Rattle.record.specs.Numbers.{part, byte_at, number32, number64}
 use Rattle.record.specs.Keys.{Key, key_in}
@@ -27,7 +26,7 @@ pub record TraceRecord : Type 0 where
 
 -- "1 node mark; 4 to 7 node"
 unfoldable pub node_in : List ℕ → Node
-node_in s = cond (eqb (byte_at 1 s) 1) (Marked (record { 0 = number32 4 s })) Missing
+node_in s = cond (eqb (byte_at 1 s) 1) (Some (record { 0 = number32 4 s })) None
 
 -- n numbers of 64 bits, the first at p
 unfoldable pub numbers_from : ℕ → ℕ → List ℕ → List ℕ

@@ -5,7 +5,7 @@ ghost use Rattle.record.specs.Named.{cause_of, state_of, effect_of};
 ghost use Rattle.record.specs.Records.{decode};
 
 use crate::limits::{SPAN_LIMIT, SPANS_AT, VOTER_LIMIT, VOTERS_AT};
-use crate::named::{ApplyEffect, Node, NodeId, RangeCause, RangeState};
+use crate::named::{ApplyEffect, NodeId, RangeCause, RangeState};
 use crate::number::{index, u32_at, u64_at};
 
 // The kind.
@@ -17,14 +17,14 @@ pub fn kind(rec: &[u8]) -> u8
 }
 
 // The node, where the record is marked with one.
-pub fn node(rec: &[u8]) -> Node
+pub fn node(rec: &[u8]) -> Option<NodeId>
     requires { length rec.now ≡ record_size }
     ensures { result ≡ (decode rec.now).node }
 {
     if rec[1] == 1 {
-        Node::Marked(NodeId(u32_at(rec, 4)))
+        Some(NodeId(u32_at(rec, 4)))
     } else {
-        Node::Missing
+        None
     }
 }
 

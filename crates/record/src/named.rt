@@ -1,26 +1,19 @@
 // The named values of a record: the numbers of nodes, ranges and servers, and the sub-codes of kinds 1, 2 and 3.
 
 // A node's number, as the Rust's NodeId.
-#[derive(Clone, Copy)]
+#[derive(Clone, Copy, PartialEq, Eq)]
 pub struct NodeId(pub u32);
 
 // A range's number, as the Rust's RangeId.
-#[derive(Clone, Copy)]
+#[derive(Clone, Copy, PartialEq, Eq)]
 pub struct RangeId(pub u64);
 
 // A server's number: a node's number becomes one only through the node's latest RaftRecovered.
-#[derive(Clone, Copy)]
+#[derive(Clone, Copy, PartialEq, Eq)]
 pub struct ServerId(pub u64);
 
-// The node that wrote a record, where the record is marked with one.
-#[derive(Clone, Copy)]
-pub enum Node {
-    Marked(NodeId),
-    Missing,
-}
-
 // What created a range: kind 1's sub-code.
-#[derive(Clone, Copy)]
+#[derive(Clone, Copy, PartialEq, Eq)]
 pub enum RangeCause {
     Bootstrap,
     Split,
@@ -28,7 +21,7 @@ pub enum RangeCause {
 }
 
 // A descriptor's state: kind 2's sub-code.
-#[derive(Clone, Copy)]
+#[derive(Clone, Copy, PartialEq, Eq)]
 pub enum RangeState {
     Live,
     Merging,
@@ -36,7 +29,7 @@ pub enum RangeState {
 }
 
 // What applying an entry did: kind 3's sub-code.
-#[derive(Clone, Copy)]
+#[derive(Clone, Copy, PartialEq, Eq)]
 pub enum ApplyEffect {
     Applied,
     OutOfSpan,

@@ -7,14 +7,11 @@ use Prim.Native.Nat.{ℕ, ◌-◌, ◌≤◌, ◌<◌}
 use native.Mathlib.Omega.{arith}
 use lib.Dec.{eqb, ltb}
 use borrow.Author.Tests.{eq-eqb, ne_eqb, not-true, not-false}
-use Rattle.record.specs.declared.named.Node.TheVariants.{Marked}
 use Rattle.record.specs.declared.named.NodeId.{NodeId}
 use Rattle.record.specs.declared.named.ApplyEffect.TheVariants.{Took}
 use Rattle.record.specs.Records.{TraceRecord}
-use Rattle.rules.specs.declared.Case.{Case}
-use Rattle.rules.specs.declared.Case.TheVariants.{Clear}
+use Rattle.rules.specs.Cases.{Case, fault}
 use Rattle.rules.specs.History.{History, is_kind, is_by, is_some, holds, any_of}
-use Rattle.rules.specs.Cases.{fault}
 use Rattle.rules.specs.GenerationsRise.{has_effect}
 use Rattle.rules.specs.OneOwnerPerKey.{has_hold}
 use Rattle.rules.specs.RightHalf.{Registered, server_of, is_split, registered, registers, is_voter, missing_fault, half_at}
@@ -123,9 +120,9 @@ module _ (log : List ℕ) (n : ℕ) {k : ℕ} {x : TraceRecord} (w : Taken log n
 
 -- ---- a Took, by the number of the record that registered its split
 
-module _ (x : TraceRecord) (h : History) (node : NodeId) (m : x.node ≡ Marked node) (k : is_kind 3 x ≡ true) {j : ℕ} (t : has_effect Took x ≡ true)
+module _ (x : TraceRecord) (h : History) (node : NodeId) (m : x.node ≡ Some node) (k : is_kind 3 x ≡ true) {j : ℕ} (t : has_effect Took x ≡ true)
     (e : j ≡ split_number x.a x.b h) where
-  pub half_unregistered : j ≡ 0 → Clear ≡ half_at x h
+  pub half_unregistered : j ≡ 0 → None ≡ half_at x h
   half_unregistered z = half.half_unregistered x h node m k t (known_is x.a x.b h ∙ rw (← e, eq-eqb j 0 z))
 
   pub half_taken : {c : Case} → (j ≡ 0 → ⊥) → c ≡ missing_fault 1 node.0 (x ∷ h) → c ≡ half_at x h

@@ -14,8 +14,7 @@ use borrow.Author.Tests.{eqb-false, lt-ltb, le-ltb, not-true}
 use Rattle.record.specs.Records.{TraceRecord}
 use Rattle.rules.specs.History.{History, is_kind, is_by, when, or_else, is_some, holds, any_of, latest}
 use Rattle.rules.specs.OneOwnerPerKey.{has_hold}
-use Rattle.rules.specs.RightHalf.{Registered, registers, reaches, has_applied, is_voter, server_of, is_restated, cancels, debt_at, owes}
-use Rattle.rules.specs.RightHalf.{tells_restated_with, restated_with, lacks}
+use Rattle.rules.specs.RightHalf.{Registered, registers, reaches, has_applied, is_voter, server_of, is_restated, cancels, debt_at, owes, tells_restated_with, restated_with, lacks}
 use Rattle.record.proofs.Booleans.{never, and_left, and_right, or_elim, or_right, decide}
 use Rattle.rules.proofs.Marks.{kind_apart}
 use Rattle.rules.proofs.Registering.{registers_kind}

@@ -2,15 +2,14 @@
 use mathlib.Core.Path.{◌≡◌, refl, sym, ap, ◌∙◌}
 use mathlib.Core.Bool.{Bool, true, not, ◌&&◌}
 use mathlib.Core.List.{List}
-use Rattle.std.specs.Prelude.{Option, None}
+use Rattle.std.specs.Prelude.{Option, None, Some}
 use Prim.Native.Nat.{ℕ, ◌+◌, ◌-◌, ◌≤◌, ◌<◌}
 use native.Mathlib.Omega.{arith}
 use native.Mathlib.Decide.{ℕ_discrete, dec_lt}
 use lib.ListN.{get_or}
 use lib.Dec.{eqb, ltb}
 use borrow.Author.Tests.{eqb-true, ltb-true}
-use Rattle.record.specs.declared.named.Node.{Node}
-use Rattle.record.specs.declared.named.Node.TheVariants.{Marked, Missing}
+use Rattle.record.specs.Named.{Node}
 use Rattle.record.specs.Records.{TraceRecord}
 use Rattle.rules.specs.History.{Tells, is_kind, is_by, by_node}
 use Rattle.rules.specs.RightHalf.{Registered, is_restated, reaches, lacks}
@@ -50,16 +49,16 @@ module _ (f : Tells ℕ) (b : ℕ) (log : List ℕ) (n : ℕ) (P : ℕ → Bool)
 
   -- the node of one record more
   entered_by_node : (m : Node) (best : Option ℕ) → Sound P best → Sound P (lowered_by P m best)
-  entered_by_node Missing best s = s
-  entered_by_node (Marked m) best s = sound_lower P m.0 (P m.0) best refl s
+  entered_by_node None best s = s
+  entered_by_node (Some m) best s = sound_lower P m.0 (P m.0) best refl s
 
   still : (m : Node) (r : ℕ) (best : Option ℕ) → at_most best r ≡ true → at_most (lowered_by P m best) r ≡ true
-  still Missing r best e = e
-  still (Marked m) r best e = at_most_still m.0 r (P m.0) best e
+  still None r best e = e
+  still (Some m) r best e = at_most_still m.0 r (P m.0) best e
 
   new : (m : Node) (r : ℕ) (best : Option ℕ) → by_node r m ≡ true → P r ≡ true → at_most (lowered_by P m best) r ≡ true
-  new Missing r best e p = never e refl
-  new (Marked m) r best e p =
+  new None r best e p = never e refl
+  new (Some m) r best e p =
       let q : m.0 ≡ r = eqb-true m.0 r e in
       rw (q, p) (at_most_new r r best (omega arith))
 

@@ -5,10 +5,8 @@ use Rattle.std.specs.Prelude.{None, Some}
 use Prim.Native.Nat.{ℕ}
 use borrow.Author.Tests.{eq-eqb}
 use Rattle.record.specs.Records.{TraceRecord}
-use Rattle.rules.specs.declared.Case.{Case}
-use Rattle.rules.specs.declared.Case.TheVariants.{Clear}
+use Rattle.rules.specs.Cases.{Case, fault, case_of}
 use Rattle.rules.specs.History.{lowest_of}
-use Rattle.rules.specs.Cases.{fault, case_of}
 use Rattle.rules.specs.RightHalf.{registers, lacks, nodes_of, registering_fault}
 use Rattle.history.specs.Logs.{hist}
 use Rattle.splits.specs.Numbers.{named_number}
@@ -17,7 +15,7 @@ use Rattle.splits.proofs.Splits.{registers_as_lem}
 use Rattle.splits.proofs.Registered.{named_split}
 
 module _ (log : List ℕ) (n : ℕ) (x : TraceRecord) {m : ℕ} (e : m ≡ named_number x (hist log n)) where
-  pub unregistered_clear : m ≡ 0 → Clear ≡ case_of (registering_fault x (hist log n)) (registers x (hist log n))
+  pub unregistered_clear : m ≡ 0 → None ≡ case_of (registering_fault x (hist log n)) (registers x (hist log n))
   unregistered_clear z = rw (registers_as_lem log x n, ← e, eq-eqb m 0 z)
 
   module _ (some_named : m ≡ 0 → ⊥) where
@@ -28,6 +26,6 @@ module _ (log : List ℕ) (n : ℕ) (x : TraceRecord) {m : ℕ} (e : m ≡ named
     found_fault node ep ei er el ec = ec ∙ rw (named_split log n x e some_named, ← el, ep, ei, er)
 
     pub none_clear : None ≡ lowest_of (λ k. k) (lacks (split_with log x m) x (hist log n)) (nodes_of (hist log n))
-        → Clear ≡ case_of (registering_fault x (hist log n)) (registers x (hist log n))
+        → None ≡ case_of (registering_fault x (hist log n)) (registers x (hist log n))
     unfolding registering_fault
     none_clear el = rw (named_split log n x e some_named, ← el)

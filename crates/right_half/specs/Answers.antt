@@ -1,9 +1,7 @@
 -- What is missing by one split, and the lowest so far.
 use Rattle.std.specs.Prelude.{Bool, cond, not, ◌&&◌, List, ℕ, Option, None, Some}
-use Rattle.record.specs.declared.named.Node.{Node}
-use Rattle.record.specs.declared.named.Node.TheVariants.{Marked, Missing}
-use Rattle.rules.specs.declared.Found.{Found}
-use Rattle.rules.specs.declared.Found.TheVariants.{At, Nothing}
+use Rattle.record.specs.Named.{Node}
+use Rattle.rules.specs.Answers.{Found}
 use Rattle.rules.specs.History.{lower}
 use Rattle.rules.specs.OneOwnerPerKey.{has_hold}
 use Rattle.history.specs.Logs.{hist}
@@ -16,10 +14,10 @@ lacks_split log n node t right = not (has_hold node right (hist log n)) && owes_
 
 -- the number that was found
 abbrev pub found_in : Found → Option ℕ
-found_in (At n) = Some n
-found_in Nothing = None
+found_in (Some n) = Some n
+found_in None = None
 
 -- the lowest so far, with the node of a record, if it is marked and passes
 abbrev pub lowered_by : (ℕ → Bool) → Node → Option ℕ → Option ℕ
-lowered_by p Missing best = best
-lowered_by p (Marked m) best = cond (p m.0) (lower (λ n. n) m.0 best) best
+lowered_by p None best = best
+lowered_by p (Some m) best = cond (p m.0) (lower (λ n. n) m.0 best) best

@@ -1,6 +1,5 @@
 // half, at a Took of a registered split, at a RangesRestated and at a registering.
 ghost use Rattle.std.specs.Prelude.{◌≡◌, true, not, ◌&&◌, [], ◌∷◌, map, ◌≤◌, ◌<◌, length, eqb, ltb, Some};
-ghost use Rattle.record.specs.declared.named.Node.TheVariants.{Marked};
 ghost use Rattle.record.specs.declared.named.ApplyEffect.TheVariants.{Took};
 ghost use Rattle.record.specs.Records.{decode};
 ghost use Rattle.rules.specs.History.{is_kind, is_by, any_of, holds, lowest_of};
@@ -20,14 +19,14 @@ use debts::debt::debt_of;
 use history::log::record_at;
 use one_owner_per_key::held::{held_by, latest_of};
 use record::field;
-use record::named::{Node, NodeId};
-use rules::{Case, Evidence, Found};
+use record::named::NodeId;
+use rules::{Fault, Evidence};
 use splits::cells::named_by;
 use splits::split::{has_taken, is_voter, parent_of, registers, right_of, split_of};
 use splits::state::server_of;
 
 // A fault of half: node, parent, index, right.
-fn fault_of(kind: u8, node: u64, parent: u64, index: u64, right: u64) -> Case
+fn fault_of(kind: u8, node: u64, parent: u64, index: u64, right: u64) -> Option<Fault>
     ensures { result ≡ fault kind (node ∷ parent ∷ index ∷ right ∷ []) }
 {
     Case::Fault(
@@ -51,13 +50,13 @@ fn missing_case(
     kind: u8,
     node: NodeId,
     right: u64,
-) -> Case
+) -> Option<Fault>
     requires { Bounds log.now work.now count cap }
     ensures { Known cap (hist log.now count) work.now → (s : Registered) → owes node.0 right (hist log.now count) ≡ Some s → result ≡ fault kind (node.0 ∷ s.parent ∷ s.index ∷ right ∷ []) }
 {
     let k = debt_of(log, work, count, cap, node, right);
     if k == 0 {
-        return Case::Clear;
+        return None;
     }
     let found = record_at(log, k - 1);
     fault_of(
@@ -77,19 +76,19 @@ fn lowest_case(
     cap: usize,
     kind: u8,
     node: NodeId,
-    lowest: Found,
-) -> Case
+    lowest: Option<u64>,
+) -> Option<Fault>
     requires { Bounds log.now work.now count cap }
     ensures { Known cap (hist log.now count) work.now → found_in lowest ≡ lowest_of (λ n. n) (is_missing node.0 (hist log.now count)) (map (λ s. s.right) (registered (hist log.now count))) → result ≡ missing_fault kind node.0 (hist log.now count) }
 {
     match lowest {
-        Found::At(right) => missing_case(log, work, count, cap, kind, node, right),
-        Found::Nothing => Case::Clear,
+        Some(right) => missing_case(log, work, count, cap, kind, node, right),
+        None => None,
     }
 }
 
 // half of a RangesRestated: its node owes and holds with it what it did before.
-fn restated_case(log: &[u8], work: &[u64], count: usize, cap: usize, node: NodeId) -> Case
+fn restated_case(log: &[u8], work: &[u64], count: usize, cap: usize, node: NodeId) -> Option<Fault>
     requires { Bounds log.now work.now count cap }
     ensures { Known cap (hist log.now count) work.now → result ≡ missing_fault 2 node.0 (hist log.now count) }
 {
@@ -98,12 +97,12 @@ fn restated_case(log: &[u8], work: &[u64], count: usize, cap: usize, node: NodeI
 }
 
 // Whether the lowest so far is below a range.
-fn is_above(right: u64, lowest: Found) -> bool
+fn is_above(right: u64, lowest: Option<u64>) -> bool
     ensures { result ≡ holds (λ b. ltb b right) (found_in lowest) }
 {
     match lowest {
-        Found::At(b) => b < right,
-        Found::Nothing => false,
+        Some(b) => b < right,
+        None => false,
     }
 }
 
@@ -117,7 +116,7 @@ fn is_lowest(
     found: &[u8],
     node: NodeId,
     right: u64,
-    lowest: Found,
+    lowest: Option<u64>,
 ) -> bool
     requires { Bounds log.now work.now count cap × (length found.now ≡ 368) }
     ensures { Known cap (hist log.now count) work.now → result ≡ (any_of (λ v. eqb v (server_of node.0 (hist log.now count)).0) (decode found.now).voters && not (has_hold node.0 right (hist log.now count)) && not (holds (λ b. ltb b right) (found_in lowest))) }
@@ -129,7 +128,7 @@ fn is_lowest(
         return false;
     }
     let held = held_by(log, work, count, cap, count, node, right);
-    if let Found::At(_) = held { false } else { true }
+    if let Some(_) = held { false } else { true }
 }
 
 // half of a Took of the split that the record with the number k registered: the lowest of what the node owed before and
@@ -142,7 +141,7 @@ fn taken_case(
     rec: &[u8],
     node: NodeId,
     k: usize,
-) -> Case
+) -> Option<Fault>
     requires { Bounds log.now work.now count cap × ((length rec.now ≡ 368) × ((0 < k) × (k ≤ count))) }
     ensures { Known cap (hist log.now count) work.now → k ≡ split_number (decode rec.now).a (decode rec.now).b (hist log.now count) → is_by node.0 (decode rec.now) ≡ true → has_effect Took (decode rec.now) ≡ true → result ≡ missing_fault 1 node.0 (decode rec.now ∷ hist log.now count) }
 {
@@ -163,16 +162,16 @@ fn applied_case(
     cap: usize,
     rec: &[u8],
     node: NodeId,
-) -> Case
+) -> Option<Fault>
     requires { Bounds log.now work.now count cap × (length rec.now ≡ 368) }
-    ensures { Known cap (hist log.now count) work.now → (decode rec.now).node ≡ Marked node → is_kind 3 (decode rec.now) ≡ true → result ≡ half_at (decode rec.now) (hist log.now count) }
+    ensures { Known cap (hist log.now count) work.now → (decode rec.now).node ≡ Some node → is_kind 3 (decode rec.now) ≡ true → result ≡ half_at (decode rec.now) (hist log.now count) }
 {
     if !has_taken(rec) {
-        return Case::Clear;
+        return None;
     }
     let k = split_of(log, work, count, cap, count, field::a(rec), field::b(rec));
     if k == 0 {
-        return Case::Clear;
+        return None;
     }
     taken_case(log, work, count, cap, rec, node, k)
 }
@@ -186,20 +185,20 @@ fn registering_case(
     cap: usize,
     rec: &[u8],
     named: usize,
-) -> Case
+) -> Option<Fault>
     requires { Bounds log.now work.now count cap × (length rec.now ≡ 368) }
     ensures { Known cap (hist log.now count) work.now → named ≡ named_number (decode rec.now) (hist log.now count) → result ≡ case_of (registering_fault (decode rec.now) (hist log.now count)) (registers (decode rec.now) (hist log.now count)) }
 {
     if named == 0 {
-        return Case::Clear;
+        return None;
     }
     let parent = parent_of(rec);
     let index = field::b(rec);
     let right = right_of(log, count, rec, named);
     let lowest = lowest_lacking(log, work, count, cap, rec, parent, index, right);
     match lowest {
-        Found::At(node) => fault_of(2, node, parent, index, right),
-        Found::Nothing => Case::Clear,
+        Some(node) => fault_of(2, node, parent, index, right),
+        None => None,
     }
 }
 
@@ -211,9 +210,9 @@ fn registered_case(
     cap: usize,
     rec: &[u8],
     node: NodeId,
-) -> Case
+) -> Option<Fault>
     requires { Bounds log.now work.now count cap × (length rec.now ≡ 368) }
-    ensures { Known cap (hist log.now count) work.now → (decode rec.now).node ≡ Marked node → result ≡ case_of (registering_fault (decode rec.now) (hist log.now count)) (registers (decode rec.now) (hist log.now count)) }
+    ensures { Known cap (hist log.now count) work.now → (decode rec.now).node ≡ Some node → result ≡ case_of (registering_fault (decode rec.now) (hist log.now count)) (registers (decode rec.now) (hist log.now count)) }
 {
     let last = latest_of(log, work, count, cap, count, node);
     let named = registers(log, work, count, cap, rec, last);
@@ -221,13 +220,13 @@ fn registered_case(
 }
 
 // The half check's case of a record. Records of other kinds than 1, 2, 3 and 5 cost nothing.
-pub fn half(log: &[u8], work: &[u64], count: usize, cap: usize, rec: &[u8]) -> Case
+pub fn half(log: &[u8], work: &[u64], count: usize, cap: usize, rec: &[u8]) -> Option<Fault>
     requires { Bounds log.now work.now count cap × (length rec.now ≡ 368) }
     ensures { Known cap (hist log.now count) work.now → result ≡ half_at (decode rec.now) (hist log.now count) }
 {
     let marked = field::node(rec);
-    let Node::Marked(node) = marked else {
-        return Case::Clear;
+    let Some(node) = marked else {
+        return None;
     };
     let kind = field::kind(rec);
     if kind == 5 {
@@ -239,5 +238,5 @@ pub fn half(log: &[u8], work: &[u64], count: usize, cap: usize, rec: &[u8]) -> C
     if (kind == 1) | (kind == 2) {
         return registered_case(log, work, count, cap, rec, node);
     }
-    Case::Clear
+    None
 }

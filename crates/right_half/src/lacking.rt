@@ -15,8 +15,7 @@ use debts::owed::{cancel_of, is_reached, owes_by};
 use history::log::record_at;
 use one_owner_per_key::held::{held_by, latest_of};
 use record::field;
-use record::named::{Node, NodeId};
-use rules::Found;
+use record::named::NodeId;
 use splits::cells::{
     named_by, recorded_below, recorded_top, refused_by, registering_by, restated_by, server_by,
 };
@@ -67,7 +66,7 @@ pub fn was_held(
         return false;
     }
     let held = held_by(log, work, count, cap, restated - 1, node, range);
-    if let Found::At(_) = held { true } else { false }
+    if let Some(_) = held { true } else { false }
 }
 
 // Whether a node lacks the right range of the split that the record registers.
@@ -114,18 +113,18 @@ fn lowered_by(
     parent: u64,
     index: u64,
     right: u64,
-    best: Found,
-) -> Found
+    best: Option<u64>,
+) -> Option<u64>
     requires { Bounds log.now work.now count cap × ((length rec.now ≡ 368) × (length found.now ≡ 368)) }
     ensures { Known cap (hist log.now count) work.now → (s : Registered) → registers (decode rec.now) (hist log.now count) ≡ Some s → parent ≡ s.parent → index ≡ s.index → right ≡ s.right → found_in result ≡ lowered_by (lacks s (decode rec.now) (hist log.now count)) (decode found.now).node (found_in best) }
 {
     let marked = field::node(found);
-    let Node::Marked(node) = marked else {
+    let Some(node) = marked else {
         return best;
     };
     if is_below(node.0 as u64, best) {
         if lacks_at(log, work, count, cap, node, rec, parent, index, right) {
-            return Found::At(node.0 as u64);
+            return Some(node.0 as u64);
         }
     }
     best
@@ -142,11 +141,11 @@ pub fn lowest_lacking(
     parent: u64,
     index: u64,
     right: u64,
-) -> Found
+) -> Option<u64>
     requires { Bounds log.now work.now count cap × (length rec.now ≡ 368) }
     ensures { Known cap (hist log.now count) work.now → (s : Registered) → registers (decode rec.now) (hist log.now count) ≡ Some s → parent ≡ s.parent → index ≡ s.index → right ≡ s.right → found_in result ≡ lowest_of (λ n. n) (lacks s (decode rec.now) (hist log.now count)) (nodes_of (hist log.now count)) }
 {
-    let mut best = Found::Nothing;
+    let mut best = None;
     let mut i = recorded_top(work, cap, count, parent);
     while 0 < i {
         let at = i - 1;

@@ -15,17 +15,16 @@ use history::log::record_at;
 use one_owner_per_key::cells::end_by;
 use one_owner_per_key::held::{held_after, latest_of};
 use record::named::NodeId;
-use rules::Found;
 use splits::cells::{named_by, refused_by, registering_by};
 use splits::split::right_of;
 
 // Whether a range is below the lowest so far.
-pub fn is_below(right: u64, best: Found) -> bool
+pub fn is_below(right: u64, best: Option<u64>) -> bool
     ensures { result ≡ is_below right (found_in best) }
 {
     match best {
-        Found::At(b) => right < b,
-        Found::Nothing => true,
+        Some(b) => right < b,
+        None => true,
     }
 }
 
@@ -67,28 +66,28 @@ fn lowered(
     refused: usize,
     t: usize,
     right: u64,
-    best: Found,
-) -> Found
+    best: Option<u64>,
+) -> Option<u64>
     requires { Bounds log.now work.now count cap × (t < count) }
     ensures { Known cap (hist log.now count) work.now → ended ≡ latest_end node.0 (hist log.now count) → refused ≡ refused_number node.0 (hist log.now count) → found_in result ≡ cond (lacks_split log.now count node.0 t right) (lower (λ n. n) right (found_in best)) (found_in best) }
 {
     if is_below(right, best) {
         if is_lacking(log, work, count, cap, node, ended, refused, t, right) {
-            return Found::At(right);
+            return Some(right);
         }
     }
     best
 }
 
 // The lowest right range that a node owes and does not hold. The Rust's `owed_and_missing`.
-pub fn lowest_missing(log: &[u8], work: &[u64], count: usize, cap: usize, node: NodeId) -> Found
+pub fn lowest_missing(log: &[u8], work: &[u64], count: usize, cap: usize, node: NodeId) -> Option<u64>
     requires { Bounds log.now work.now count cap }
     ensures { Known cap (hist log.now count) work.now → found_in result ≡ lowest_of (λ n. n) (is_missing node.0 (hist log.now count)) (map (λ s. s.right) (registered (hist log.now count))) }
 {
     let last = latest_of(log, work, count, cap, count, node);
     let ended = end_by(work, cap, last);
     let refused = refused_by(work, cap, last);
-    let mut best = Found::Nothing;
+    let mut best = None;
     let mut i = registering_by(work, cap, count);
     while 0 < i {
         let at = i - 1;

@@ -1,4 +1,5 @@
 -- Words read as reports are those words again, and reports written as words read back. Assumes nothing.
+use Rattle.std.specs.Prelude.{None}
 use mathlib.Core.Path.{◌≡◌, refl, sym, ap, ◌∙◌, subst}
 use mathlib.Core.Bool.{Bool, true, ◌&&◌}
 use mathlib.Core.List.{List, [], ◌∷◌, ◌++◌, append_assoc}
@@ -11,8 +12,7 @@ use lib.Dec.{leb}
 use lib.ListN.{length, get_or, take, drop, set, length-append, length-set, drop_of_length-le}
 use lib.Seq.{sets, drop-cons, take_all, take-suc-set, get_or-append-add, get_or-set_same, get_or-set_other}
 use Rattle.record.proofs.Lists.{sets_tail}
-use Rattle.rules.specs.declared.Case.{Case}
-use Rattle.rules.specs.declared.Case.TheVariants.{Clear, Fault}
+use Rattle.rules.specs.Cases.{Case, fault_with}
 use Rattle.rules.specs.declared.Evidence.{Evidence}
 use Rattle.rules.specs.declared.Report.{Report}
 use Rattle.rules.specs.declared.Verdict.{Verdict}
@@ -20,8 +20,7 @@ use Rattle.rules.specs.declared.Verdict.TheVariants.{Pass, Faulted}
 use Rattle.rules.specs.Reports.{passed, faulted}
 use Rattle.rules.specs.Checks.{check_count}
 use Rattle.record.proofs.Booleans.{and_left, and_right, both}
-use Rattle.rows.specs.Rows.{rows_size, kind_word, report_words, rows_of, verdict_in, report_in, reports_from, reports_in}
-use Rattle.rows.specs.Rows.{KindsFit, kinds_fit_in, kinds_fit, entered_in, EntersIn}
+use Rattle.rows.specs.Rows.{rows_size, kind_word, report_words, rows_of, verdict_in, report_in, reports_from, reports_in, KindsFit, kinds_fit_in, kinds_fit, entered_in, EntersIn}
 
 -- ---- from words to reports and back to the words
 
@@ -269,12 +268,12 @@ enter_fits rows k r n l b f =
 
 -- ---- what a check says, entered
 
-pub enter_clear : (rows : List ℕ) (k position : ℕ) {c : Case} → c ≡ Clear → EntersIn rows k c position rows
+pub enter_clear : (rows : List ℕ) (k position : ℕ) {c : Case} → c ≡ None → EntersIn rows k c position rows
 enter_clear rows k position e = record { is = ap (λ (d : Case). entered_in rows k d position) (sym e); fits = λ f. f }
 
 pub enter_fault : (rows : List ℕ) (k position : ℕ) {kind : ℕ} {e : Evidence} {c : Case} {rows' : List ℕ}
     → length rows ≡ rows_size → k < check_count → kind ≤ 255
-    → c ≡ Fault kind e → rows' ≡ sets rows (7 * k) (report_words (faulted position kind e)) → EntersIn rows k c position rows'
+    → c ≡ fault_with kind e → rows' ≡ sets rows (7 * k) (report_words (faulted position kind e)) → EntersIn rows k c position rows'
 enter_fault rows k position {kind} {e} n l b q w =
     record {
       is = w ∙ ap (λ (d : Case). entered_in rows k d position) (sym q);

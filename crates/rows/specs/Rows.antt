@@ -1,8 +1,7 @@
 -- Reports as words, seven for each check in printing order, and the way back.
-use Rattle.std.specs.Prelude.{◌≡◌, Bool, true, ◌&&◌, List, [], ◌∷◌, ◌++◌, ℕ, zero, suc, ◌+◌, ◌*◌, ◌≤◌, ◌<◌, length, get_or, leb}
+use Rattle.std.specs.Prelude.{◌≡◌, Bool, true, ◌&&◌, List, [], ◌∷◌, ◌++◌, ℕ, zero, suc, ◌+◌, ◌*◌, ◌≤◌, ◌<◌, length, get_or, leb, None, Some}
 use Rattle.std.proofs.lemmas.List.Edits.{sets}
-use Rattle.rules.specs.declared.Case.{Case}
-use Rattle.rules.specs.declared.Case.TheVariants.{Clear, Fault}
+use Rattle.rules.specs.Cases.{Case}
 use Rattle.rules.specs.declared.Report.{Report}
 use Rattle.rules.specs.declared.Verdict.{Verdict}
 use Rattle.rules.specs.declared.Verdict.TheVariants.{Pass, Faulted}
@@ -76,8 +75,8 @@ pub record WrittenIn (out : List ℕ) (at : ℕ) (reports : List Report) (out' :
 
 -- a row after a check said c of the record at a position
 abbrev pub entered_in : List ℕ → ℕ → Case → ℕ → List ℕ
-entered_in rows k Clear position = rows
-entered_in rows k (Fault kind e) position = sets rows (7 * k) (report_words (faulted position kind e))
+entered_in rows k None position = rows
+entered_in rows k (Some f) position = sets rows (7 * k) (report_words (faulted position f.kind f.evidence))
 
 -- what entering a case leaves: the row of a fault, whose kind is a byte as the others are
 pub record EntersIn (rows : List ℕ) (k : ℕ) (c : Case) (position : ℕ) (rows' : List ℕ) : Type 0 where

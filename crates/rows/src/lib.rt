@@ -8,7 +8,7 @@ ghost use Rattle.rules.specs.Reports.{passed};
 ghost use Rattle.rules.specs.Checks.{check_count};
 ghost use Rattle.rows.specs.Rows.{rows_size, kind_word, report_words, verdict_in, report_in, reports_in, KindsFit, kinds_fit, WrittenIn, EntersIn};
 
-use rules::{CHECKS, Case, Evidence, Report, Verdict};
+use rules::{CHECKS, Fault, Evidence, Report, Verdict};
 
 // The words of a report: kind, position, five evidence numbers.
 pub const REPORT_WORDS: usize = 7;
@@ -131,19 +131,19 @@ pub fn write_rows(out: &mut [u64], at: usize, reports: [Report; CHECKS])
 }
 
 // Enters what a check says of the record at a position into the check's row, which is a pass's: a fault's seven words, or nothing.
-pub fn enter(rows: &mut [u64], k: usize, c: Case, position: u64)
+pub fn enter(rows: &mut [u64], k: usize, c: Option<Fault>, position: u64)
     requires { (length rows.old ≡ rows_size) × (k < check_count) }
     ensures { EntersIn rows.old k c position rows.new }
 {
     match c {
-        Case::Clear => {}
-        Case::Fault(kind, evidence) => {
-            let fault = Report {
-                verdict: Verdict::Faulted(kind),
+        None => {}
+        Some(fault) => {
+            let report = Report {
+                verdict: Verdict::Faulted(fault.kind),
                 at: position,
-                evidence: evidence,
+                evidence: fault.evidence,
             };
-            write_report(rows, REPORT_WORDS * k, fault);
+            write_report(rows, REPORT_WORDS * k, report);
         }
     }
 }

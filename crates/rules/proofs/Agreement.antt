@@ -8,12 +8,9 @@ use Prim.Native.Nat.{ℕ}
 use lib.Dec.{eqb, ltb, leb}
 use Rattle.record.specs.Records.{TraceRecord}
 use Rattle.record.proofs.Booleans.{never}
-use Rattle.rules.specs.declared.Case.{Case}
-use Rattle.rules.specs.declared.Case.TheVariants.{Clear}
+use Rattle.rules.specs.Cases.{Case, is_fault, fault, fault_if, or_case, case_of, earliest_case}
 use Rattle.rules.specs.History.{History, is_some, any_of, those, latest_of, greater, greatest_of, add_some, add_first}
-use Rattle.rules.specs.Cases.{is_fault, fault, fault_if, or_case, case_of, earliest_case}
-use Rattle.rules.specs.Descriptors.{held_by, Entry, Role, puts, states, neither, role_of, entry_at, put_by, stated_by, same_place, standing, stated}
-use Rattle.rules.specs.Descriptors.{at_in, held_eqb, put_fault, puts_differ, ahead_fault, differs_fault, statement_fault, agreement}
+use Rattle.rules.specs.Descriptors.{held_by, Entry, Role, puts, states, neither, role_of, entry_at, put_by, stated_by, same_place, standing, stated, at_in, held_eqb, put_fault, puts_differ, ahead_fault, differs_fault, statement_fault, agreement}
 use Rattle.rules.proofs.Members.{any_of_none}
 use Rattle.rules.proofs.Skips.{greatest_of_skip, lowest_of_skip}
 use Rattle.rules.proofs.Placed.{latest_none, any_latest}
@@ -31,7 +28,7 @@ agreement_put true p h = put_fault (Some p) (standing h)
 agreement_put false p h = earliest_case (statement_fault (p ∷ standing h)) (those (touches p) (stated h))
 
 abbrev pub agreement_role : Role → TraceRecord → History → Case
-agreement_role neither x h = Clear
+agreement_role neither x h = None
 agreement_role (states i) x h = statement_fault (standing h) (entry_at i x h)
 agreement_role (puts i) x h = agreement_put (any_of (same_place (entry_at i x h)) (standing h)) (entry_at i x h) h
 
@@ -42,7 +39,7 @@ agreement_at x h = agreement_role (role_of x h) x h
 -- ---- one value more
 
 -- a place at which no value stands has nothing to differ from
-none_differs : (p : Entry) (vs : List Entry) → any_of (same_place p) vs ≡ false → put_fault (Some p) vs ≡ Clear
+none_differs : (p : Entry) (vs : List Entry) → any_of (same_place p) vs ≡ false → put_fault (Some p) vs ≡ None
 unfolding put_fault
 none_differs p vs h = rw (latest_none (same_place p) vs (any_of_none (same_place p) vs h))
 
@@ -127,7 +124,7 @@ agreement_cons : (x : TraceRecord) (h : History) → agreement (x ∷ h) ≡ agr
 unfolding agreement
 agreement_cons x h = rw (puts_cons x h, standing_cons x h, stated_cons x h)
 
-put_none : (vs : List Entry) → put_fault None vs ≡ Clear
+put_none : (vs : List Entry) → put_fault None vs ≡ None
 unfolding put_fault
 put_none vs = refl
 
@@ -135,16 +132,16 @@ case_cons : (f : Entry → Case) (s : Entry) (ss : List Entry) → earliest_case
 unfolding earliest_case
 case_cons f s ss = refl
 
-module _ (h : History) (k : agreement h ≡ Clear) where
-  puts_clear : puts_differ h ≡ Clear
+module _ (h : History) (k : agreement h ≡ None) where
+  puts_clear : puts_differ h ≡ None
   unfolding agreement
   puts_clear = clear_left (puts_differ h) (earliest_case (statement_fault (standing h)) (stated h)) k
 
-  pub stated_clear : earliest_case (statement_fault (standing h)) (stated h) ≡ Clear
+  pub stated_clear : earliest_case (statement_fault (standing h)) (stated h) ≡ None
   unfolding agreement
   stated_clear = clear_right (puts_differ h) (earliest_case (statement_fault (standing h)) (stated h)) k
 
-module _ (x : TraceRecord) (h : History) (k : agreement h ≡ Clear) where
+module _ (x : TraceRecord) (h : History) (k : agreement h ≡ None) where
   -- a put, by whether a value stands at its place
   agreed_put : (p : Entry) (b : Bool) → any_of (same_place p) (standing h) ≡ b
       → or_case (or_case (puts_differ h) (put_fault (Some p) (standing h)))
@@ -168,14 +165,14 @@ module _ (x : TraceRecord) (h : History) (k : agreement h ≡ Clear) where
 -- ---- the same by the role of the record
 
 -- a put at a place where none stands
-pub agreement_new : (x : TraceRecord) (h : History) → agreement h ≡ Clear → (i : ℕ) → role_of x h ≡ puts i
+pub agreement_new : (x : TraceRecord) (h : History) → agreement h ≡ None → (i : ℕ) → role_of x h ≡ puts i
     → any_of (same_place (entry_at i x h)) (standing h) ≡ false
     → agreement (x ∷ h) ≡ earliest_case (statement_fault (entry_at i x h ∷ standing h)) (stated h)
 agreement_new x h k i role free =
     agreement_cons x h ∙ rw (role, puts_clear h k, none_differs (entry_at i x h) (standing h) free, free)
 
 -- a put at a place where a value stands
-module _ (x : TraceRecord) (h : History) (k : agreement h ≡ Clear) (i : ℕ) (role : role_of x h ≡ puts i) where
+module _ (x : TraceRecord) (h : History) (k : agreement h ≡ None) (i : ℕ) (role : role_of x h ≡ puts i) where
   pub agreement_taken : (v : Entry) → latest_of (same_place (entry_at i x h)) (standing h) ≡ Some v
       → agreement (x ∷ h) ≡ fault_if (not (held_eqb v.held (held_by x))) (fault 1 (x.a ∷ i ∷ []))
   unfolding agreement_at put_fault
@@ -184,11 +181,11 @@ module _ (x : TraceRecord) (h : History) (k : agreement h ≡ Clear) (i : ℕ) (
       agreement_more x h k ∙ rw (role, t, e)
 
 -- a statement, and any other record
-module _ (x : TraceRecord) (h : History) (k : agreement h ≡ Clear) where
+module _ (x : TraceRecord) (h : History) (k : agreement h ≡ None) where
   pub agreement_states : (i : ℕ) → role_of x h ≡ states i → agreement (x ∷ h) ≡ statement_fault (standing h) (entry_at i x h)
   unfolding agreement_at
   agreement_states i e = agreement_more x h k ∙ rw e
 
-  pub agreement_neither : role_of x h ≡ neither → agreement (x ∷ h) ≡ Clear
+  pub agreement_neither : role_of x h ≡ neither → agreement (x ∷ h) ≡ None
   unfolding agreement_at
   agreement_neither e = agreement_more x h k ∙ rw e

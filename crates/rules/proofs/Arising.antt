@@ -12,8 +12,7 @@ use Rattle.record.specs.declared.named.ApplyEffect.TheVariants.{Took}
 use Rattle.record.specs.Records.{TraceRecord}
 use Rattle.rules.specs.History.{History, is_kind, is_by, when, or_else, is_some, holds, given, any_of, add_some, latest_of, greater, greatest_of, firsts}
 use Rattle.rules.specs.GenerationsRise.{has_effect}
-use Rattle.rules.specs.RightHalf.{Registered, is_restated, registered, registers, reaches, has_applied, is_voter, own_debt, owes_by_registering}
-use Rattle.rules.specs.RightHalf.{registering_debt, debt_at}
+use Rattle.rules.specs.RightHalf.{Registered, is_restated, registered, registers, reaches, has_applied, is_voter, own_debt, owes_by_registering, registering_debt, debt_at}
 use Rattle.record.proofs.Booleans.{both, or_left, or_right}
 use Rattle.rules.proofs.Marks.{kind_apart}
 use Rattle.rules.proofs.Members.{Mem, here, there, any_of_mem}

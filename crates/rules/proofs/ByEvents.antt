@@ -1,5 +1,6 @@
 -- A report that is right by records is right by events, for any check whose fault is had to the end of its event; and such are the
 -- checks whose cases arise at records, and those judged as a whole that are constant along events.
+use Rattle.std.specs.Prelude.{None}
 use mathlib.Core.Path.{◌≡◌, refl, sym, ap, ◌∙◌, subst}
 use mathlib.Core.Bool.{true, false}
 use mathlib.Core.List.{[], ◌∷◌}
@@ -8,23 +9,19 @@ use Prim.Native.Nat.{ℕ, suc, ◌≤◌, ◌<◌}
 use native.Mathlib.Omega.{arith}
 use native.Mathlib.Decide.{dec_le}
 use lib.ListN.{length}
-use Rattle.rules.specs.declared.Case.{Case}
-use Rattle.rules.specs.declared.Case.TheVariants.{Clear, Fault}
+use Rattle.rules.specs.Cases.{Case, fault_with, is_fault}
 use Rattle.rules.specs.declared.Evidence.{Evidence}
 use Rattle.rules.specs.declared.Report.{Report}
 use Rattle.rules.specs.declared.Verdict.TheVariants.{Pass}
 use Rattle.record.specs.Records.{TraceRecord}
 use Rattle.rules.specs.History.{History}
-use Rattle.rules.specs.Cases.{is_fault}
 use Rattle.rules.specs.Events.{first, continues, events, position, records_in, first_events}
 use Rattle.rules.specs.Reports.{passed, faulted, AtRecord, at_last, HasWhole, Arises, Steady, FirstFault, Right, report_of}
 use Rattle.record.proofs.Booleans.{decide, never}
 use Rattle.rules.proofs.Beginnings.{first_later, first_all, first_nil, first_none, first_past, first_length, first_first}
-use Rattle.rules.proofs.Events.{events_same, events_next, events_first, events_order, records_in_within, records_in_longest, first_events_all}
-use Rattle.rules.proofs.Events.{first_events_later, first_events_most, Begun}
+use Rattle.rules.proofs.Events.{events_same, events_next, events_first, events_order, records_in_within, records_in_longest, first_events_all, first_events_later, first_events_most, Begun}
 use Rattle.rules.proofs.CaseLists.{clear_of}
-use Rattle.rules.proofs.Reports.{FirstRecord, RightByRecords, Judged, clean, faulty, judged, right_by_records}
-use Rattle.rules.proofs.Reports.{report_of_none, report_of_clear, report_of_pass}
+use Rattle.rules.proofs.Reports.{FirstRecord, RightByRecords, Judged, clean, faulty, judged, right_by_records, report_of_none, report_of_clear, report_of_pass}
 
 -- what a check has to supply: an empty history has no fault, what its last record has it has, what it has its last record has or it
 -- had before, and what it has it has with a record that continues
@@ -80,7 +77,7 @@ module _ {has : History → Type 0} {case_at : History → Case} (lawful : Lawfu
     inside n k l = first_first k (records_in n h) h l (records_in_within n h)
 
     -- the first fault by records is the first fault by events
-    pub first_by_events : (m n kind : ℕ) (e : Evidence) → events (first m h) ≡ n → FirstRecord has case_at h m (Fault kind e)
+    pub first_by_events : (m n kind : ℕ) (e : Evidence) → events (first m h) ≡ n → FirstRecord has case_at h m (fault_with kind e)
         → FirstFault has case_at h n kind e
     first_by_events m n kind e q a =
         let w : m ≤ length h = a.within in
@@ -119,12 +116,12 @@ module _ {has : History → Type 0} {case_at : History → Case} (lawful : Lawfu
 
     -- and it is the first fault by records
     pub first_by_records : (n kind : ℕ) (e : Evidence) (a : FirstFault has case_at h n kind e)
-        → FirstRecord has case_at h a.case.number (Fault kind e)
+        → FirstRecord has case_at h a.case.number (fault_with kind e)
     first_by_records n kind e a =
         let m = a.case.number in
         let l : m ≤ records_in n h = number_within n kind e a in
         let r : records_in n h ≤ length h = records_in_within n h in
-        let c : case_at (first m h) ≡ Fault kind e = ap case_at (sym (inside n m l)) ∙ a.case.here in
+        let c : case_at (first m h) ≡ fault_with kind e = ap case_at (sym (inside n m l)) ∙ a.case.here in
         record {
           within = omega arith;
           here = last (first m h) (ap is_fault c);
@@ -188,7 +185,7 @@ module _ {has : History → Type 0} {case_at : History → Case} (lawful : Lawfu
 
 -- ---- a fault that a beginning has as a whole, by a check that is constant along events: agreement's
 
-pub whole_lawful : (f : History → Case) → f [] ≡ Clear → Steady f → Lawful (HasWhole f) f
+pub whole_lawful : (f : History → Case) → f [] ≡ None → Steady f → Lawful (HasWhole f) f
 whole_lawful f e steady = record {
   nothing = λ y. never y (ap is_fault e);
   last = λ h y. y;

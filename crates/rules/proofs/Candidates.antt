@@ -7,11 +7,9 @@ use mathlib.Core.Logic.{⊎_elim}
 use Prim.Native.Nat.{ℕ, ◌≤◌}
 use lib.Dec.{eqb}
 use borrow.Author.Tests.{eqb-true}
-use Rattle.record.specs.declared.named.Node.{Node}
-use Rattle.record.specs.declared.named.Node.TheVariants.{Marked, Missing}
+use Rattle.record.specs.Named.{Node}
 use Rattle.record.specs.Records.{Span, TraceRecord}
-use Rattle.rules.specs.History.{History, is_kind, by_node, is_by, when, or_else, Change, becomes, ends, lasting, is_some, holds, add_some}
-use Rattle.rules.specs.History.{lowest_of, latest, told}
+use Rattle.rules.specs.History.{History, is_kind, by_node, is_by, when, or_else, Change, becomes, ends, lasting, is_some, holds, add_some, lowest_of, latest, told}
 use Rattle.rules.specs.Descriptors.{span_of}
 use Rattle.rules.specs.OneOwnerPerKey.{is_holding, is_ending, tells_hold, hold_of, ranges_of, meets, lowest_meeting}
 use Rattle.rules.specs.RightHalf.{tells_restated, is_restated, node_number, nodes_of, Registered, lacks}
@@ -71,8 +69,8 @@ lowest_meeting_right p s node h =
 -- ---- a node that is restated has a record
 
 marked_mem : (node : ℕ) (n : Node) (ns : List ℕ) → by_node node n ≡ true → Mem node (add_some (node_number n) ns)
-marked_mem node Missing ns e = never e refl
-marked_mem node (Marked n) ns e = rw (eqb-true n.0 node e) here
+marked_mem node None ns e = never e refl
+marked_mem node (Some n) ns e = rw (eqb-true n.0 node e) here
 
 restated_next : (node : ℕ) (n : Node) (ns : List ℕ) (l : Option Bool) (b k e : Bool) → by_node node n ≡ b → (holds (λ b. b) l ≡ true → Mem node ns)
     → holds (λ b. b) (or_else (when (b && k) e) l) ≡ true → Mem node (add_some (node_number n) ns)

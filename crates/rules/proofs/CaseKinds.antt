@@ -1,5 +1,5 @@
 -- Every case of a check has one of its kinds, as the table of checks says. Assumes nothing.
-use mathlib.Core.Path.{◌≡◌, refl}
+use mathlib.Core.Path.{ap, ◌≡◌, refl}
 use mathlib.Core.Bool.{Bool, true, false, cond, not, ◌&&◌}
 use mathlib.Core.List.{List, [], ◌∷◌, map}
 use Rattle.std.specs.Prelude.{Option, None, Some}
@@ -7,45 +7,44 @@ use Prim.Native.Nat.{ℕ, suc, ◌≤◌}
 use native.Mathlib.Omega.{arith}
 use lib.Dec.{eqb, ltb, leb}
 use Rattle.record.specs.Records.{Span, TraceRecord}
-use Rattle.record.specs.declared.named.Node.{Node}
-use Rattle.record.specs.declared.named.Node.TheVariants.{Marked, Missing}
+use Rattle.record.specs.Named.{Node}
 use Rattle.record.specs.Keys.{Key, key_eqb, inside}
 use Rattle.record.specs.declared.named.ApplyEffect.TheVariants.{Took}
-use Rattle.rules.specs.declared.Case.{Case}
-use Rattle.rules.specs.declared.Case.TheVariants.{Clear, Fault}
+use Rattle.rules.specs.Cases.{Case, fault_with, is_fault, fault_if, or_case, case_of, earliest_case, first_case, KindWithin}
 use Rattle.rules.specs.declared.Evidence.{Evidence}
 use Rattle.rules.specs.declared.Opening.{Opening}
 use Rattle.rules.specs.declared.Report.{Report}
 use Rattle.rules.specs.declared.Verdict.{Verdict}
 use Rattle.rules.specs.declared.Verdict.TheVariants.{Pass, Faulted}
-use Rattle.rules.specs.Cases.{is_fault, fault_if, or_case, case_of, earliest_case, first_case, KindWithin}
 use Rattle.rules.specs.History.{History, is_kind, is_some, any_of, latest_of, greatest_of, lowest_of}
-use Rattle.rules.specs.Descriptors.{Entry, span_of, held_eqb, same_place, tells_put, standing, stated, at_in, first_at_generation}
-use Rattle.rules.specs.Descriptors.{put_fault, puts_differ, ahead_fault, differs_fault, statement_fault, agreement}
+use Rattle.rules.specs.Descriptors.{Entry, span_of, held_eqb, same_place, tells_put, standing, stated, at_in, first_at_generation, put_fault, puts_differ, ahead_fault, differs_fault, statement_fault, agreement}
 use Rattle.rules.specs.OneOwnerPerKey.{by_marked, is_holding, has_hold, lowest_meeting, group_of, is_named, overlap_at, install_fault, install_at, twice_at}
-use Rattle.rules.specs.RightHalf.{Registered, registered, registers, is_registered, owes, is_missing, nodes_of, lacks}
-use Rattle.rules.specs.RightHalf.{missing_fault, registering_fault, half_at}
+use Rattle.rules.specs.RightHalf.{Registered, registered, registers, is_registered, owes, is_missing, nodes_of, lacks, missing_fault, registering_fault, half_at}
 use Rattle.rules.specs.GenerationsRise.{Write, has_effect, tells_write, same_write, writes, opposes, is_earlier, write_fault, generations_at}
 use Rattle.rules.specs.IdsUnique.{Grant, grant_eqb, nonempty, shares, tells_grant, same_index, first_grants, blocks_of, grant_fault, ids_at}
-use Rattle.rules.specs.MetaNeverGoesBack.{Name, differs_from, names, is_won, standing_name, bounds, least_key}
-use Rattle.rules.specs.MetaNeverGoesBack.{named_fault, name_fault, key_fault, won_fault, meta_at}
+use Rattle.rules.specs.MetaNeverGoesBack.{Name, differs_from, names, is_won, standing_name, bounds, least_key, named_fault, name_fault, key_fault, won_fault, meta_at}
 use Rattle.rules.specs.Reports.{at_first, AtRecord, at_last, report_of}
 use Rattle.rules.specs.Checks.{Check, checks, case_at, Every}
 
+-- the kind of a fault
+abbrev kind_in : Case → ℕ
+kind_in None = 0
+kind_in (Some f) = f.kind
+
 module _ {most : ℕ} where
-  within_clear : KindWithin most Clear
+  within_clear : KindWithin most None
   within_clear = record { kind = λ k e x. absurd (let z : ◌≡◌ {A = ℕ} 0 1 = cc in omega arith) }
 
-  within_fault : (n : ℕ) {f : Evidence} → 1 ≤ n → n ≤ most → KindWithin most (Fault n f)
-  within_fault n p q = record { kind = λ k e x. let z : n ≡ k = cc in (omega arith, omega arith) }
+  within_fault : (n : ℕ) {f : Evidence} → 1 ≤ n → n ≤ most → KindWithin most (fault_with n f)
+  within_fault n {f} p q = record { kind = λ k e x. let z : n ≡ k = ap (λ (c : Case). kind_in c) x in (omega arith, omega arith) }
 
   within_if : (b : Bool) {c : Case} → KindWithin most c → KindWithin most (fault_if b c)
   within_if true p = p
   within_if false p = within_clear
 
   or_by : (c : Case) {d : Case} → KindWithin most c → KindWithin most d → KindWithin most (or_case c d)
-  or_by Clear p q = q
-  or_by (Fault k e) p q = p
+  or_by None p q = q
+  or_by (Some f) p q = p
 
   within_or : {c d : Case} → KindWithin most c → KindWithin most d → KindWithin most (or_case c d)
   within_or {c} p q = or_by c p q
@@ -70,23 +69,23 @@ module _ {most : ℕ} where
     within_first (x ∷ xs) p = within_or (p x) (within_first xs p)
 
   within_marked : {f : ℕ → Case} (n : Node) → ((k : ℕ) → KindWithin most (f k)) → KindWithin most (by_marked f n)
-  within_marked Missing p = within_clear
-  within_marked (Marked k) p = p k.0
+  within_marked None p = within_clear
+  within_marked (Some k) p = p k.0
 
 -- ---- each check
 
 -- a fault by the place of its kind among the check's own
 module _ {most : ℕ} {f : Evidence} where
-  first_kind : KindWithin (suc most) (Fault 1 f)
+  first_kind : KindWithin (suc most) (fault_with 1 f)
   first_kind = within_fault 1 (omega arith) (omega arith)
 
-  second_kind : KindWithin (suc (suc most)) (Fault 2 f)
+  second_kind : KindWithin (suc (suc most)) (fault_with 2 f)
   second_kind = within_fault 2 (omega arith) (omega arith)
 
-  third_kind : KindWithin (suc (suc (suc most))) (Fault 3 f)
+  third_kind : KindWithin (suc (suc (suc most))) (fault_with 3 f)
   third_kind = within_fault 3 (omega arith) (omega arith)
 
-  fourth_kind : KindWithin (suc (suc (suc (suc most)))) (Fault 4 f)
+  fourth_kind : KindWithin (suc (suc (suc (suc most)))) (fault_with 4 f)
   fourth_kind = within_fault 4 (omega arith) (omega arith)
 
 put_kinds : (o : Option Entry) (vs : List Entry) → KindWithin 3 (put_fault o vs)
@@ -239,8 +238,8 @@ VerdictWithin most (Faulted kind) = (1 ≤ kind) × (kind ≤ most)
 next_kinds : {most : ℕ} (v : Verdict) (r : Report) (c : Case) (n : ℕ) → VerdictWithin most r.verdict → KindWithin most c
     → VerdictWithin most (at_first v r c n).verdict
 next_kinds (Faulted kind) r c n p q = p
-next_kinds Pass r Clear n p q = p
-next_kinds Pass r (Fault kind e) n p q = q.kind kind e refl
+next_kinds Pass r None n p q = p
+next_kinds Pass r (Some f) n p q = q.kind f.kind f.evidence refl
 
 pub report_kinds : {most : ℕ} (f : History → Case) → ((h : History) → KindWithin most (f h)) → (h : History)
     → VerdictWithin most (report_of f h).verdict

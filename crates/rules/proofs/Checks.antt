@@ -1,11 +1,11 @@
 -- The laws of the table of checks: how many there are, what holds of each, and that each check's report is right.
+use Rattle.std.specs.Prelude.{None}
 use mathlib.Core.Path.{◌≡◌, refl, ap, ◌∙◌}
 use mathlib.Core.Bool.{Bool, true, ◌&&◌}
 use mathlib.Core.List.{List, [], ◌∷◌, map}
 use Prim.Native.Nat.{ℕ, zero, suc, ◌<◌}
 use native.Mathlib.Omega.{arith}
 use lib.ListN.{length, get_or}
-use Rattle.rules.specs.declared.Case.TheVariants.{Clear}
 use Rattle.rules.specs.declared.Opening.{Opening}
 use Rattle.rules.specs.History.{History}
 use Rattle.rules.specs.Reports.{passed, Right, Steady}
@@ -61,7 +61,7 @@ report_at_lem o h k l = map_at o h checks (check_at check_count) k l
 
 -- a rule that is judged as a whole has no fault of no records
 abbrev pub Grounded : Check → Type 0
-Grounded c = (o : Opening) → case_at o c [] ≡ Clear
+Grounded c = (o : Opening) → case_at o c [] ≡ None
 
 pub grounded : Every Grounded checks
 grounded = (
@@ -83,7 +83,7 @@ steadied = (
   (λ o. tt, (λ o. tt, (λ o. tt, (λ o. tt, (λ o. tt, (λ o. tt, (λ o. tt, tt))))))),
 )
 
-rule_lawful : (r : Rule) (o : Opening) → case_by r o [] ≡ Clear → SteadyBy r o → Lawful (HasBy r o) (case_by r o)
+rule_lawful : (r : Rule) (o : Opening) → case_by r o [] ≡ None → SteadyBy r o → Lawful (HasBy r o) (case_by r o)
 rule_lawful (at_record f) o z s = arises_lawful (f o)
 rule_lawful (whole f) o z s = whole_lawful (f o) z s
 

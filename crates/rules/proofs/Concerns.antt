@@ -8,16 +8,13 @@ use native.Mathlib.Omega.{arith}
 use lib.Dec.{eqb}
 use borrow.Author.Tests.{eqb-true, ne_eqb}
 use Rattle.record.specs.Records.{TraceRecord}
-use Rattle.record.specs.declared.named.Node.{Node}
-use Rattle.record.specs.declared.named.Node.TheVariants.{Marked, Missing}
-use Rattle.rules.specs.declared.Case.{Case}
-use Rattle.rules.specs.declared.Case.TheVariants.{Clear}
+use Rattle.record.specs.Named.{Node}
+use Rattle.rules.specs.Cases.{Case, earliest_case}
 use Rattle.rules.specs.declared.Opening.{Opening}
 use Rattle.rules.specs.declared.Report.{Report}
 use Rattle.rules.specs.declared.Verdict.{Verdict}
 use Rattle.rules.specs.declared.Verdict.TheVariants.{Pass, Faulted}
 use Rattle.rules.specs.History.{History, is_kind, any_of, told, firsts}
-use Rattle.rules.specs.Cases.{earliest_case}
 use Rattle.rules.specs.Descriptors.{neither, role_of, put_fault, puts_differ, standing, stated, agreement}
 use Rattle.rules.specs.OneOwnerPerKey.{by_marked, overlap_at, install_at, twice_at}
 use Rattle.rules.specs.RightHalf.{Pending, pending, pending_split, split_by, registers, half_at}
@@ -33,30 +30,30 @@ use Rattle.rules.proofs.Reports.{report_of_step, report_of_pass}
 
 -- ---- a report that is not moved
 
-at_clear : (v : Verdict) (r : Report) (n : ℕ) → at_first v r Clear n ≡ r
+at_clear : (v : Verdict) (r : Report) (n : ℕ) → at_first v r None n ≡ r
 at_clear Pass r n = refl
 at_clear (Faulted kind) r n = refl
 
 module _ (f : History → Case) where
   -- a pass says that the check is clear
-  pub pass_clear : f [] ≡ Clear → (h : History) → (report_of f h).verdict ≡ Pass → f h ≡ Clear
+  pub pass_clear : f [] ≡ None → (h : History) → (report_of f h).verdict ≡ Pass → f h ≡ None
   pass_clear z [] e = z
   pass_clear z (x ∷ h) e = clear_of (f (x ∷ h)) (report_of_pass f x h e).1
 
   -- a record at which the check is clear leaves the report
-  pub unmoved : (x : TraceRecord) (h : History) → f (x ∷ h) ≡ Clear → report_of f (x ∷ h) ≡ report_of f h
+  pub unmoved : (x : TraceRecord) (h : History) → f (x ∷ h) ≡ None → report_of f (x ∷ h) ≡ report_of f h
   unmoved x h e =
       report_of_step f x h
       ∙ ap (λ (c : Case). at_first (report_of f h).verdict (report_of f h) c (position (x ∷ h))) e
       ∙ at_clear (report_of f h).verdict (report_of f h) (position (x ∷ h))
 
   steady_by : (x : TraceRecord) (h : History) → f (x ∷ h) ≡ f h → (v : Verdict) → (report_of f h).verdict ≡ v
-      → ((report_of f h).verdict ≡ Pass → f h ≡ Clear) → at_first v (report_of f h) (f (x ∷ h)) (position (x ∷ h)) ≡ report_of f h
+      → ((report_of f h).verdict ≡ Pass → f h ≡ None) → at_first v (report_of f h) (f (x ∷ h)) (position (x ∷ h)) ≡ report_of f h
   steady_by x h e Pass q z = ap (λ (c : Case). at_first Pass (report_of f h) c (position (x ∷ h))) (e ∙ z q)
   steady_by x h e (Faulted kind) q z = refl
 
   -- .. and so does one with which the beginning as a whole is judged as before
-  pub steady : f [] ≡ Clear → (x : TraceRecord) (h : History) → f (x ∷ h) ≡ f h → report_of f (x ∷ h) ≡ report_of f h
+  pub steady : f [] ≡ None → (x : TraceRecord) (h : History) → f (x ∷ h) ≡ f h → report_of f (x ∷ h) ≡ report_of f h
   steady z x h e = report_of_step f x h ∙ steady_by x h e (report_of f h).verdict refl (pass_clear z h)
 
 -- ---- the kinds
@@ -69,13 +66,13 @@ module _ (x : TraceRecord) where
 
 -- ---- each check
 
-pub agreement_none : agreement [] ≡ Clear
+pub agreement_none : agreement [] ≡ None
 unfolding agreement puts_differ stated told earliest_case
 agreement_none = refl
 
-marked_clear : (f : ℕ → Case) (n : Node) → ((k : ℕ) → f k ≡ Clear) → by_marked f n ≡ Clear
-marked_clear f Missing p = refl
-marked_clear f (Marked n) p = p n.0
+marked_clear : (f : ℕ → Case) (n : Node) → ((k : ℕ) → f k ≡ None) → by_marked f n ≡ None
+marked_clear f None p = refl
+marked_clear f (Some n) p = p n.0
 
 module _ (x : TraceRecord) (h : History) where
   -- neither a put nor a statement
@@ -87,15 +84,15 @@ module _ (x : TraceRecord) (h : History) where
   unfolding agreement puts_differ put_fault standing stated told firsts
   agreement_same p q = rw (role_neither p q) (rw (or_clear (puts_differ h)))
 
-  overlap_clear : is_kind 1 x ≡ false → is_kind 2 x ≡ false → overlap_at x h ≡ Clear
+  overlap_clear : is_kind 1 x ≡ false → is_kind 2 x ≡ false → overlap_at x h ≡ None
   unfolding overlap_at
   overlap_clear p q = marked_clear _ x.node (λ n. rw (p, q))
 
-  install_clear : (tenant : ℕ) → is_kind 8 x ≡ false → install_at tenant x h ≡ Clear
+  install_clear : (tenant : ℕ) → is_kind 8 x ≡ false → install_at tenant x h ≡ None
   unfolding install_at
   install_clear tenant p = marked_clear _ x.node (λ n. rw p)
 
-  twice_clear : is_kind 1 x ≡ false → twice_at x h ≡ Clear
+  twice_clear : is_kind 1 x ≡ false → twice_at x h ≡ None
   unfolding twice_at
   twice_clear p = marked_clear _ x.node (λ n. rw p)
 
@@ -104,22 +101,22 @@ module _ (x : TraceRecord) (h : History) where
   pending_none q (Some p) = rw q
 
   split_none : is_kind 1 x ≡ false → is_kind 2 x ≡ false → (n : Node) → split_by x h n ≡ None
-  split_none p q Missing = refl
-  split_none p q (Marked n) = rw (p, pending_none q (pending n.0 h))
+  split_none p q None = refl
+  split_none p q (Some n) = rw (p, pending_none q (pending n.0 h))
 
-  half_clear : is_kind 1 x ≡ false → is_kind 2 x ≡ false → is_kind 3 x ≡ false → is_kind 5 x ≡ false → half_at x h ≡ Clear
+  half_clear : is_kind 1 x ≡ false → is_kind 2 x ≡ false → is_kind 3 x ≡ false → is_kind 5 x ≡ false → half_at x h ≡ None
   unfolding half_at registers
   half_clear p q r s = marked_clear _ x.node (λ n. rw (r, s, split_none p q x.node))
 
-  generations_clear : is_kind 3 x ≡ false → generations_at x h ≡ Clear
+  generations_clear : is_kind 3 x ≡ false → generations_at x h ≡ None
   unfolding generations_at
   generations_clear p = rw p
 
-  ids_clear : is_kind 11 x ≡ false → ids_at x h ≡ Clear
+  ids_clear : is_kind 11 x ≡ false → ids_at x h ≡ None
   unfolding ids_at
   ids_clear p = rw p
 
-  meta_clear : is_kind 12 x ≡ false → meta_at x h ≡ Clear
+  meta_clear : is_kind 12 x ≡ false → meta_at x h ≡ None
   unfolding meta_at
   meta_clear p = rw p
 

@@ -5,14 +5,11 @@ use Rattle.record.specs.Keys.{key_ltb, list_eqb}
 use Rattle.record.specs.Numbers.{big_endian_from}
 use Rattle.rules.specs.History.{any_of, those, latest_of, earliest_of, greatest_of, lowest_of, told, latest, firsts}
 use Rattle.rules.specs.Cases.{earliest_case, first_case}
-use Rattle.rules.specs.Descriptors.{held_by, held_eqb, applied, reached, role_of, standing, stated, before_in, at_in, first_at_generation_in, put_fault}
-use Rattle.rules.specs.Descriptors.{puts_differ, ahead_fault, differs_fault, statement_fault, agreement, before, at, first_at_generation, statements}
-use Rattle.rules.specs.Descriptors.{is_empty}
+use Rattle.rules.specs.Descriptors.{held_by, held_eqb, applied, reached, role_of, standing, stated, before_in, at_in, first_at_generation_in, put_fault, puts_differ, ahead_fault, differs_fault, statement_fault, agreement, before, at, first_at_generation, statements, is_empty}
 use Rattle.rules.specs.IdsUnique.{first_grants, grant_eqb, blocks_of, ids_at, insert_block, in_order, blocks, holders_of}
 use Rattle.rules.specs.OneOwnerPerKey.{hold_of, ranges_of, lowest_meeting, overlap_at, group_of, is_named, install_at, twice_at}
 use Rattle.rules.specs.GenerationsRise.{writes, generations_at}
-use Rattle.rules.specs.RightHalf.{server_of, is_restated, pending, registered, registers, recorded, has_applied, own_debt, debt_at, owes, restated_with}
-use Rattle.rules.specs.RightHalf.{missing_fault, nodes_of, registering_fault, half_at}
+use Rattle.rules.specs.RightHalf.{server_of, is_restated, pending, registered, registers, recorded, has_applied, own_debt, debt_at, owes, restated_with, missing_fault, nodes_of, registering_fault, half_at}
 use Rattle.rules.specs.MetaNeverGoesBack.{names, standing_name, key_fault, bounds, least_key, won_fault, meta_at}
 use Rattle.rules.specs.Events.{events, records_in}
 use Rattle.rules.specs.Reports.{report_of}

@@ -11,11 +11,9 @@ use lib.ListN.{length}
 use lib.Dec.{eqb, leb}
 use borrow.Author.Tests.{leb-true, le-leb, eqb-true, eqb-false, eq-eqb}
 use Rattle.record.specs.Records.{TraceRecord}
-use Rattle.rules.specs.declared.Case.TheVariants.{Clear}
 use Rattle.rules.specs.History.{History, is_kind, when, add_some, any_of, those, told, latest_of, greatest_of}
 use Rattle.rules.specs.Cases.{is_fault, fault, fault_if, case_of}
-use Rattle.rules.specs.IdsUnique.{Grant, grant_by, tells_grant, same_index, first_grants, grant_eqb, nonempty, blocks_of, contains, shares}
-use Rattle.rules.specs.IdsUnique.{shared_fault, first_fault, grant_fault, ids_at, holders_of}
+use Rattle.rules.specs.IdsUnique.{Grant, grant_by, tells_grant, same_index, first_grants, grant_eqb, nonempty, blocks_of, contains, shares, shared_fault, first_fault, grant_fault, ids_at, holders_of}
 use Rattle.rules.specs.Reports.{Arises}
 use Rattle.rules.specs.AnyOrder.{leased_of, grants_of, Agree, Unique, AtMostOneHolder}
 use Rattle.record.proofs.Booleans.{decide, never, and_left, and_right, both}
@@ -133,7 +131,7 @@ unique_more g {gs} n a u = record {
 -- ---- one more record
 
 module _ (x : TraceRecord) (h : History) where
-  no_grant : tells_grant x h ≡ None → ids_at x h ≡ Clear
+  no_grant : tells_grant x h ≡ None → ids_at x h ≡ None
   unfolding ids_at
   no_grant e = rw e
 

@@ -1,16 +1,15 @@
 -- The meta case by its parts: another kind, a descriptor at fault, or the keys that are won.
+use Rattle.std.specs.Prelude.{None}
 use mathlib.Core.Path.{◌≡◌, sym, ap, ◌∙◌}
 use mathlib.Core.Bool.{Bool, true, false}
 use Prim.Native.Nat.{ℕ}
 use lib.Dec.{eqb}
 use borrow.Author.Tests.{eq-eqb, ne_eqb}
 use Rattle.record.specs.Records.{TraceRecord}
-use Rattle.rules.specs.Cases.{fault_if, or_case}
+use Rattle.rules.specs.Cases.{fault_if, or_case, fault_with, Case}
 use Rattle.rules.specs.Descriptors.{first_at_generation}
 use Rattle.rules.specs.History.{History}
 use Rattle.rules.specs.MetaNeverGoesBack.{is_won, named_fault, names, won_fault, meta_at}
-use Rattle.rules.specs.declared.Case.{Case}
-use Rattle.rules.specs.declared.Case.TheVariants.{Clear, Fault}
 use Rattle.rules.specs.declared.Evidence.{Evidence}
 
 module _ (x : TraceRecord) (h : History) {k : ℕ} (e : k ≡ x.kind) where
@@ -21,15 +20,15 @@ module _ (x : TraceRecord) (h : History) {k : ℕ} (e : k ≡ x.kind) where
   unfolding meta_at
   by_kind b q = ap (λ (t : Bool). fault_if t (or_case (named_fault x (first_at_generation x.a x.d h)) wins)) (ap (λ (j : ℕ). eqb j 12) (sym e) ∙ q)
 
-  pub meta_other : (k ≡ 12 → ⊥) → Clear ≡ meta_at x h
+  pub meta_other : (k ≡ 12 → ⊥) → None ≡ meta_at x h
   meta_other n = sym (by_kind false (ne_eqb k 12 n))
 
   module _ (q : k ≡ 12) {n : Case} (d : n ≡ named_fault x (first_at_generation x.a x.d h)) where
     by_named : (c : Case) → n ≡ c → meta_at x h ≡ or_case c wins
     by_named c p = by_kind true (eq-eqb k 12 q) ∙ ap (λ (m : Case). or_case m wins) (sym d ∙ p)
 
-    pub meta_named : {kind : ℕ} {v : Evidence} → n ≡ Fault kind v → Fault kind v ≡ meta_at x h
-    meta_named {kind} {v} p = sym (by_named (Fault kind v) p)
+    pub meta_named : {kind : ℕ} {v : Evidence} → n ≡ fault_with kind v → fault_with kind v ≡ meta_at x h
+    meta_named {kind} {v} p = sym (by_named (fault_with kind v) p)
 
-    pub meta_won : {r : Case} → n ≡ Clear → r ≡ wins → r ≡ meta_at x h
-    meta_won p t = t ∙ sym (by_named Clear p)
+    pub meta_won : {r : Case} → n ≡ None → r ≡ wins → r ≡ meta_at x h
+    meta_won p t = t ∙ sym (by_named None p)

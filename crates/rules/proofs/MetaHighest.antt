@@ -12,14 +12,11 @@ use borrow.Author.Tests.{not-true, ltb-true, ltb-false, le-ltb}
 use Rattle.record.specs.Keys.{Key, key_ltb, Lt, Le}
 use Rattle.record.specs.Records.{TraceRecord}
 use Rattle.record.proofs.Keys.{le_le_le, lt_le_lt}
-use Rattle.rules.specs.Cases.{is_fault, fault_if, or_case, case_of}
+use Rattle.rules.specs.Cases.{is_fault, fault_if, or_case, case_of, Case}
 use Rattle.rules.specs.Descriptors.{span_of, first_at_generation}
 use Rattle.rules.specs.History.{History, is_kind, when, greater, greatest_of}
-use Rattle.rules.specs.MetaNeverGoesBack.{Name, is_won, name_by, names, covers, standing_name, named_fault, name_fault, key_fault, won_fault}
-use Rattle.rules.specs.MetaNeverGoesBack.{meta_at, FirstFaulty, at, clean}
+use Rattle.rules.specs.MetaNeverGoesBack.{Name, is_won, name_by, names, covers, standing_name, named_fault, name_fault, key_fault, won_fault, meta_at, FirstFaulty, at, clean}
 use Rattle.rules.specs.Reports.{at_last, report_of}
-use Rattle.rules.specs.declared.Case.{Case}
-use Rattle.rules.specs.declared.Case.TheVariants.{Clear, Fault}
 use Rattle.rules.specs.declared.Verdict.TheVariants.{Pass}
 use Rattle.record.proofs.Booleans.{never, and_left, and_right}
 use Rattle.rules.proofs.Members.{Mem, mem_nil, mem_cons}
@@ -107,8 +104,8 @@ module _ (x : TraceRecord) (ns : List Name) (k : Key) where
 -- ---- while the report is a pass
 
 won_by : (k b : Bool) (c d : Case) → k ≡ true → b ≡ true → is_fault (fault_if k (or_case c (fault_if b d))) ≡ false → is_fault d ≡ false
-won_by true true Clear d p q e = e
-won_by true true (Fault kind v) d p q e = never refl e
+won_by true true None d p q e = e
+won_by true true (Some f) d p q e = never refl e
 won_by true false c d p q e = never q refl
 won_by false b c d p q e = never p refl
 
@@ -161,5 +158,5 @@ module _ (x : TraceRecord) (h : History) (p : Passes h) {o : Name} (i : Mem o (n
   unfolding key_fault
   clear_key k a b = clear_of k (has_key k a b) (standing_name (names h) k) (highest h p k)
 
-  pub covered_clear : won_fault x (names h) ≡ Clear
+  pub covered_clear : won_fault x (names h) ≡ None
   covered_clear = won_fault_found x (names h) (clean clear_key refl)

@@ -7,13 +7,10 @@ use mathlib.Core.Logic.{⊎_elim}
 use borrow.Author.Tests.{not-true}
 use Rattle.record.specs.Keys.{Key, key_ltb, inside, Lt, Le}
 use Rattle.record.specs.Records.{TraceRecord}
-use Rattle.rules.specs.declared.Case.{Case}
-use Rattle.rules.specs.declared.Case.TheVariants.{Clear}
+use Rattle.rules.specs.Cases.{Case, is_fault, case_of}
 use Rattle.rules.specs.History.{greatest_of}
-use Rattle.rules.specs.Cases.{is_fault, case_of}
 use Rattle.rules.specs.Descriptors.{span_of}
-use Rattle.rules.specs.MetaNeverGoesBack.{Name, covers, standing_name, name_fault, key_fault, bounds, least_key, won_fault, FirstFaultyKey}
-use Rattle.rules.specs.MetaNeverGoesBack.{FirstFaulty, at, clean}
+use Rattle.rules.specs.MetaNeverGoesBack.{Name, covers, standing_name, name_fault, key_fault, bounds, least_key, won_fault, FirstFaultyKey, FirstFaulty, at, clean}
 use Rattle.record.proofs.Booleans.{decide, never, and_left, and_right}
 use Rattle.record.proofs.Keys.{lt_or_le, clash, le_le_eq, lt_lt_lt, le_lt_lt, le_le_le}
 use Rattle.rules.proofs.Members.{Mem, here, there, mem_nil}
@@ -149,5 +146,5 @@ module _ (x : TraceRecord) (ns : List Name) where
     unfolding key_fault
     clear_key k a b = clear_by k a b (standing_name ns k) (standing_name_right ns k)
 
-    pub names_clear : won_fault x ns ≡ Clear
+    pub names_clear : won_fault x ns ≡ None
     names_clear = won_fault_found (clean clear_key refl)

@@ -4,16 +4,14 @@ use mathlib.Core.Path.{◌≡◌, refl, sym, ap, ◌∙◌}
 use mathlib.Core.Bool.{true, false}
 use mathlib.Core.List.{List, [], ◌∷◌}
 use mathlib.Core.Logic.{⊎_elim}
-use Rattle.std.specs.Prelude.{Option}
+use Rattle.std.specs.Prelude.{Option, None}
 use Rattle.record.specs.Keys.{Key, Lt, Le}
 use Rattle.record.specs.Records.{TraceRecord}
 use Rattle.record.proofs.Keys.{lt_or_le, le_refl, clash, lt_le, lt_le_lt, le_le_le}
-use Rattle.rules.specs.Cases.{is_fault, case_of}
+use Rattle.rules.specs.Cases.{is_fault, case_of, Case}
 use Rattle.rules.specs.Descriptors.{span_of}
 use Rattle.rules.specs.History.{History}
 use Rattle.rules.specs.MetaNeverGoesBack.{Name, standing_name, name_fault, key_fault, bounds, won_fault, at, clean}
-use Rattle.rules.specs.declared.Case.{Case}
-use Rattle.rules.specs.declared.Case.TheVariants.{Clear}
 use Rattle.rules.proofs.Members.{Mem, here, there}
 use Rattle.rules.proofs.MetaLeast.{key_fault_between, won_fault_found}
 
@@ -27,7 +25,7 @@ walked_start {x} e = rw e (record { low = le_refl (span_of 1 x).start; none = λ
 
 module _ {x : TraceRecord} {ns : List Name} {c : Key} (w : Walked x ns c) where
   -- past the end of the won span
-  pub walked_end : {e : Key} {r : Case} → e ≡ (span_of 1 x).end → Le e c → r ≡ Clear → r ≡ won_fault x ns
+  pub walked_end : {e : Key} {r : Case} → e ≡ (span_of 1 x).end → Le e c → r ≡ None → r ≡ won_fault x ns
   walked_end {e} q h t = t ∙ sym (won_fault_found x ns (clean (λ k a b. w.none k a (lt_le_lt b (rw q at h))) refl))
 
   module _ {best : Option Name} (s : standing_name ns c ≡ best) {r : Case} (t : r ≡ case_of (name_fault x) best) where

@@ -13,10 +13,8 @@ use borrow.Author.Tests.{eqb-true, eq-eqb, ltb-true}
 use Rattle.record.specs.declared.named.ApplyEffect.TheVariants.{Took}
 use Rattle.record.specs.Records.{TraceRecord}
 use Rattle.record.proofs.Booleans.{never, decide, and_left, and_right, both, or_cases, or_left, or_right}
-use Rattle.rules.specs.declared.Case.{Case}
-use Rattle.rules.specs.declared.Case.TheVariants.{Clear}
+use Rattle.rules.specs.Cases.{Case, fault, case_of}
 use Rattle.rules.specs.History.{History, is_kind, is_by, is_some, holds, latest_of, lowest_of, or_else}
-use Rattle.rules.specs.Cases.{fault, case_of}
 use Rattle.rules.specs.GenerationsRise.{has_effect}
 use Rattle.rules.specs.OneOwnerPerKey.{has_hold}
 use Rattle.rules.specs.RightHalf.{Registered, is_split, registered, is_voter, cancels, debt_at, owes, is_missing, missing_fault}
@@ -40,7 +38,7 @@ abbrev debt_case : ℕ → ℕ → ℕ → Option Registered → Case
 debt_case kind node right o = case_of (λ s. fault kind (node ∷ s.parent ∷ s.index ∷ right ∷ [])) o
 
 module _ (kind node : ℕ) (h : History) where
-  pub missing_none : None ≡ lowest_missing node h → Clear ≡ missing_fault kind node h
+  pub missing_none : None ≡ lowest_missing node h → None ≡ missing_fault kind node h
   unfolding missing_fault
   missing_none e = rw (← e)
 

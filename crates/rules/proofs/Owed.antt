@@ -8,8 +8,7 @@ use lib.Dec.{eqb}
 use borrow.Author.Tests.{eqb-true}
 use Rattle.record.specs.Records.{TraceRecord}
 use Rattle.rules.specs.History.{History, when, or_else, is_some, given, add_some, greatest_of, lowest_of}
-use Rattle.rules.specs.RightHalf.{Registered, registered, registers, applies, is_voter, own_debt, owes_by_registering, registering_debt}
-use Rattle.rules.specs.RightHalf.{cancels, debt_at, owes, is_missing}
+use Rattle.rules.specs.RightHalf.{Registered, registered, registers, applies, is_voter, own_debt, owes_by_registering, registering_debt, cancels, debt_at, owes, is_missing}
 use Rattle.record.proofs.Booleans.{never, and_left, and_right}
 use Rattle.rules.proofs.Members.{Mem, here, there}
 use Rattle.rules.proofs.Placed.{Placed, Answer, placed_mem}

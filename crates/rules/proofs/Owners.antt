@@ -4,43 +4,40 @@ use mathlib.Core.Bool.{true, false, not}
 use Rattle.std.specs.Prelude.{Option, None, Some}
 use Prim.Native.Nat.{ℕ}
 use lib.Dec.{eqb}
-use Rattle.record.specs.declared.named.Node.{Node}
+use Rattle.record.specs.Named.{Node}
 use Rattle.record.specs.declared.named.NodeId.{NodeId}
-use Rattle.record.specs.declared.named.Node.TheVariants.{Marked, Missing}
 use Rattle.record.specs.Records.{Span, TraceRecord}
-use Rattle.rules.specs.declared.Case.{Case}
-use Rattle.rules.specs.declared.Case.TheVariants.{Clear, Fault}
+use Rattle.rules.specs.Cases.{Case, fault_with, first_case}
 use Rattle.rules.specs.History.{History, is_kind}
 use Rattle.rules.specs.Descriptors.{span_of}
-use Rattle.rules.specs.Cases.{first_case}
 use Rattle.rules.specs.OneOwnerPerKey.{is_holding, has_hold, by_marked, lowest_meeting, group_of, is_named, overlap_at, install_fault, install_at, twice_at}
 
 -- a fault of kind 1 with three numbers of evidence
 abbrev pub fault_by : ℕ → ℕ → ℕ → Case
-fault_by a b c = Fault 1 (record { e0 = a; e1 = b; e2 = c; e3 = 0; e4 = 0 })
+fault_by a b c = fault_with 1 (record { e0 = a; e1 = b; e2 = c; e3 = 0; e4 = 0 })
 
 -- "Without a node the record ends its step here"
-pub unmarked : (f : ℕ → Case) {m : Node} → m ≡ Missing → Clear ≡ by_marked f m
+pub unmarked : (f : ℕ → Case) {m : Node} → m ≡ None → None ≡ by_marked f m
 unmarked f e = rw e
 
-marked : (f : ℕ → Case) {m : Node} {n : NodeId} → m ≡ Marked n → by_marked f m ≡ f n.0
+marked : (f : ℕ → Case) {m : Node} {n : NodeId} → m ≡ Some n → by_marked f m ≡ f n.0
 marked f e = rw e
 
 module _ (x : TraceRecord) (h : History) where
-  pub overlap_unmarked : x.node ≡ Missing → Clear ≡ overlap_at x h
+  pub overlap_unmarked : x.node ≡ None → None ≡ overlap_at x h
   unfolding overlap_at
   overlap_unmarked e = unmarked _ e
 
-  pub twice_unmarked : x.node ≡ Missing → Clear ≡ twice_at x h
+  pub twice_unmarked : x.node ≡ None → None ≡ twice_at x h
   unfolding twice_at
   twice_unmarked e = unmarked _ e
 
-  pub install_unmarked : (tenant : ℕ) → x.node ≡ Missing → Clear ≡ install_at tenant x h
+  pub install_unmarked : (tenant : ℕ) → x.node ≡ None → None ≡ install_at tenant x h
   unfolding install_at
   install_unmarked tenant e = unmarked _ e
 
-  module _ {n : NodeId} (m : x.node ≡ Marked n) where
-    pub overlap_other : is_holding x ≡ false → Clear ≡ overlap_at x h
+  module _ {n : NodeId} (m : x.node ≡ Some n) where
+    pub overlap_other : is_holding x ≡ false → None ≡ overlap_at x h
     unfolding overlap_at
     overlap_other e = sym (marked _ m ∙ rw e)
 
@@ -49,11 +46,11 @@ module _ (x : TraceRecord) (h : History) where
       unfolding overlap_at
       overlap_met s = sym (marked _ m ∙ rw (e, ← ea, ← eo, s))
 
-      pub overlap_apart : o ≡ None → Clear ≡ overlap_at x h
+      pub overlap_apart : o ≡ None → None ≡ overlap_at x h
       unfolding overlap_at
       overlap_apart s = sym (marked _ m ∙ rw (e, ← ea, ← eo, s))
 
-    pub twice_other : is_kind 1 x ≡ false → Clear ≡ twice_at x h
+    pub twice_other : is_kind 1 x ≡ false → None ≡ twice_at x h
     unfolding twice_at
     twice_other e = sym (marked _ m ∙ rw e)
 
@@ -62,11 +59,11 @@ module _ (x : TraceRecord) (h : History) where
       unfolding twice_at
       twice_held eb g = sym (marked _ m ∙ rw (e, ← ea, ← eb, g))
 
-      pub twice_free : has_hold n.0 a h ≡ false → Clear ≡ twice_at x h
+      pub twice_free : has_hold n.0 a h ≡ false → None ≡ twice_at x h
       unfolding twice_at
       twice_free g = sym (marked _ m ∙ rw (e, ← ea, g))
 
-    pub install_other : (tenant : ℕ) → is_kind 8 x ≡ false → Clear ≡ install_at tenant x h
+    pub install_other : (tenant : ℕ) → is_kind 8 x ≡ false → None ≡ install_at tenant x h
     unfolding install_at
     install_other tenant e = sym (marked _ m ∙ rw e)
 
@@ -77,12 +74,12 @@ module _ (x : TraceRecord) (h : History) where
 -- ---- install, of one span
 
 module _ (tenant : ℕ) (x : TraceRecord) (h : History) (node : ℕ) (s : Span) {g : Option ℕ} (eg : g ≡ group_of tenant s.start) where
-  pub replaced_named : {k : ℕ} → g ≡ Some k → Clear ≡ install_fault tenant x h node s
+  pub replaced_named : {k : ℕ} → g ≡ Some k → None ≡ install_fault tenant x h node s
   replaced_named e = rw (← eg, e)
 
   module _ {o : Option ℕ} (e : g ≡ None) (eo : o ≡ lowest_meeting (λ r. not (is_named tenant x.spans r)) s node h) where
     pub replaced_met : {r : ℕ} → o ≡ Some r → fault_by node r 0 ≡ install_fault tenant x h node s
     replaced_met p = rw (← eg, e, ← eo, p)
 
-    pub replaced_apart : o ≡ None → Clear ≡ install_fault tenant x h node s
+    pub replaced_apart : o ≡ None → None ≡ install_fault tenant x h node s
     replaced_apart p = rw (← eg, e, ← eo, p)

@@ -4,8 +4,7 @@ use mathlib.Core.Bool.{Bool, true, false, not, ◌||◌}
 use mathlib.Core.List.{◌∷◌}
 use Rattle.std.proofs.lemmas.Option.{same_Some}
 use Rattle.std.specs.Prelude.{Option, None, Some}
-use Rattle.record.specs.declared.named.Node.{Node}
-use Rattle.record.specs.declared.named.Node.TheVariants.{Marked, Missing}
+use Rattle.record.specs.Named.{Node}
 use Rattle.record.specs.Records.{TraceRecord}
 use Rattle.rules.specs.History.{History, is_kind, when, given}
 use Rattle.rules.specs.RightHalf.{Pending, Registered, pending, pending_split, split_by, tells_split, registered, is_registered, unless_known, registers}
@@ -19,8 +18,8 @@ module _ (x : TraceRecord) (h : History) where
     not_pending (Some p) = rw not_2
 
     not_split : (n : Node) → split_by x h n ≡ None
-    not_split Missing = refl
-    not_split (Marked n) = rw not_1 (not_pending (pending n.0 h))
+    not_split None = refl
+    not_split (Some n) = rw not_1 (not_pending (pending n.0 h))
 
     pub registers_none : registers x h ≡ None
     unfolding registers

@@ -1,5 +1,6 @@
 -- The report of a history is right by records, each way, for any check, which is the stage before right by events; one more record
 -- steps it; after a fault it stays.
+use Rattle.std.specs.Prelude.{None, Some}
 use mathlib.Core.Path.{◌≡◌, refl, sym, ap, ◌∙◌, subst}
 use mathlib.Core.Bool.{true, false}
 use mathlib.Core.List.{List, [], ◌∷◌, ◌++◌}
@@ -9,14 +10,12 @@ use native.Mathlib.Omega.{arith}
 use native.Mathlib.Decide.{dec_le}
 use lib.ListN.{length}
 use Rattle.record.specs.Records.{TraceRecord}
-use Rattle.rules.specs.declared.Case.{Case}
-use Rattle.rules.specs.declared.Case.TheVariants.{Clear, Fault}
+use Rattle.rules.specs.Cases.{Case, fault_with, is_fault}
 use Rattle.rules.specs.declared.Evidence.{Evidence}
 use Rattle.rules.specs.declared.Report.{Report}
 use Rattle.rules.specs.declared.Verdict.{Verdict}
 use Rattle.rules.specs.declared.Verdict.TheVariants.{Pass, Faulted}
 use Rattle.rules.specs.History.{History}
-use Rattle.rules.specs.Cases.{is_fault}
 use Rattle.rules.specs.Events.{first, position}
 use Rattle.rules.specs.Reports.{passed, faulted, at_first, report_of}
 use Rattle.record.proofs.Booleans.{never}
@@ -27,13 +26,13 @@ use Rattle.rules.proofs.CaseLists.{clear_of}
 
 -- a report as the case that it is of
 abbrev case_by : Verdict → Evidence → Case
-case_by Pass e = Clear
-case_by (Faulted kind) e = Fault kind e
+case_by Pass e = None
+case_by (Faulted kind) e = fault_with kind e
 
 -- a case as the report of it
 abbrev as_report : ℕ → Case → Report
-as_report n Clear = passed
-as_report n (Fault kind e) = faulted n kind e
+as_report n None = passed
+as_report n (Some f) = faulted n f.kind f.evidence
 
 pub passed_or : {A : Type 0} (n kind : ℕ) (e : Evidence) → passed ≡ faulted n kind e → A
 passed_or n kind e q =
@@ -42,8 +41,8 @@ passed_or n kind e q =
     absurd (omega arith)
 
 pass_by : (v : Verdict) (r : Report) (c : Case) (n : ℕ) → r.verdict ≡ v → (at_first v r c n).verdict ≡ Pass → (v ≡ Pass) × (is_fault c ≡ false)
-pass_by Pass r Clear n e d = (refl, refl)
-pass_by Pass r (Fault kind w) n e d = let z : ◌≡◌ {A = ℕ} 0 1 = cc in absurd (omega arith)
+pass_by Pass r None n e d = (refl, refl)
+pass_by Pass r (Some f) n e d = let z : ◌≡◌ {A = ℕ} 0 1 = cc in absurd (omega arith)
 pass_by (Faulted kind) r c n e d = let z : ◌≡◌ {A = ℕ} 0 1 = cc in absurd (omega arith)
 
 module _ (f : History → Case) where
@@ -57,10 +56,10 @@ module _ (f : History → Case) where
   unfolding report_of
   report_of_step x h = refl
 
-  pub report_of_clear : (x : TraceRecord) (h : History) → report_of f h ≡ passed → f (x ∷ h) ≡ Clear → report_of f (x ∷ h) ≡ passed
+  pub report_of_clear : (x : TraceRecord) (h : History) → report_of f h ≡ passed → f (x ∷ h) ≡ None → report_of f (x ∷ h) ≡ passed
   report_of_clear x h p q = report_of_step x h ∙ rw (p, q)
 
-  pub report_of_fault : (x : TraceRecord) (h : History) (kind : ℕ) (e : Evidence) → report_of f h ≡ passed → f (x ∷ h) ≡ Fault kind e
+  pub report_of_fault : (x : TraceRecord) (h : History) (kind : ℕ) (e : Evidence) → report_of f h ≡ passed → f (x ∷ h) ≡ fault_with kind e
       → report_of f (x ∷ h) ≡ faulted (position (x ∷ h)) kind e
   report_of_fault x h kind e p q = report_of_step x h ∙ rw (p, q)
 
@@ -100,8 +99,8 @@ pub record FirstRecord (has : History → Type 0) (case_at : History → Case) (
 -- a report that is right by records, each way: its position is that of the first faulty record
 pub record RightByRecords (has : History → Type 0) (case_at : History → Case) (h : History) (r : Report) : Type 0 where
   pub fault_only : (n kind : ℕ) (e : Evidence) → r ≡ faulted n kind e
-      → (m : ℕ) × (n ≡ position (first m h)) × FirstRecord has case_at h m (Fault kind e)
-  pub fault_if : (n kind : ℕ) (e : Evidence) → FirstRecord has case_at h n (Fault kind e) → r ≡ faulted (position (first n h)) kind e
+      → (m : ℕ) × (n ≡ position (first m h)) × FirstRecord has case_at h m (fault_with kind e)
+  pub fault_if : (n kind : ℕ) (e : Evidence) → FirstRecord has case_at h n (fault_with kind e) → r ≡ faulted (position (first n h)) kind e
   pub pass_only : r ≡ passed → (n : ℕ) → n ≤ length h → has (first n h) → ⊥
   pub pass_if : ((n : ℕ) → n ≤ length h → has (first n h) → ⊥) → r ≡ passed
 
@@ -137,16 +136,16 @@ module _ (has : History → Type 0) (case_at : History → Case) where
   -- a report as it has to be: a pass and no beginning with the fault, or the first fault
   pub data Judged (h : History) (r : Report) : Type 0 where
     clean : r ≡ passed → Free h → Judged h r
-    faulty : (n kind : ℕ) (e : Evidence) → r ≡ faulted (position (first n h)) kind e → FirstRecord has case_at h n (Fault kind e) → Judged h r
+    faulty : (n kind : ℕ) (e : Evidence) → r ≡ faulted (position (first n h)) kind e → FirstRecord has case_at h n (fault_with kind e) → Judged h r
 
   is_first : (h : History) (r : Report) (n kind : ℕ) (e : Evidence) → r ≡ faulted n kind e → Judged h r
-      → (m : ℕ) × (n ≡ position (first m h)) × FirstRecord has case_at h m (Fault kind e)
+      → (m : ℕ) × (n ≡ position (first m h)) × FirstRecord has case_at h m (fault_with kind e)
   is_first h r n kind e q (clean p none) = passed_or n kind e (sym p ∙ q)
   is_first h r n kind e q (faulty m k d p x) =
       let t : faulted (position (first m h)) k d ≡ faulted n kind e = sym p ∙ q in
       (m, sym (ap (λ (z : Report). z.at) t), subst (λ (z : Report). FirstRecord has case_at h m (case_by z.verdict z.evidence)) t x)
 
-  is_fault_lem : (h : History) (r : Report) (n kind : ℕ) (e : Evidence) → FirstRecord has case_at h n (Fault kind e) → Judged h r
+  is_fault_lem : (h : History) (r : Report) (n kind : ℕ) (e : Evidence) → FirstRecord has case_at h n (fault_with kind e) → Judged h r
       → r ≡ faulted (position (first n h)) kind e
   is_fault_lem h r n kind e a (clean p none) = absurd (none n a.within a.here)
   is_fault_lem h r n kind e a (faulty m k d p x) = p ∙ first_report h x a
@@ -171,7 +170,7 @@ module _ (has : History → Type 0) (case_at : History → Case) where
   module _ (nothing : has [] → ⊥)
       (last : (h : History) → is_fault (case_at h) ≡ true → has h)
       (only : (x : TraceRecord) (h : History) → has (x ∷ h) → (is_fault (case_at (x ∷ h)) ≡ true) ⊎ has h) where
-    free_more : (x : TraceRecord) (h : History) → case_at (x ∷ h) ≡ Clear → Free h → Free (x ∷ h)
+    free_more : (x : TraceRecord) (h : History) → case_at (x ∷ h) ≡ None → Free h → Free (x ∷ h)
     free_more x h q none n l y = elim (dec_le n (length h)) [
       | yes m ↦ none n m (subst has (first_later n x h m) y)
       | no m ↦
@@ -185,10 +184,10 @@ module _ (has : History → Type 0) (case_at : History → Case) where
 
     judged_clean : (x : TraceRecord) (h : History) (c : Case) → case_at (x ∷ h) ≡ c → report_of case_at h ≡ passed → Free h
         → Judged (x ∷ h) (report_of case_at (x ∷ h))
-    judged_clean x h Clear q p none = clean (report_of_clear case_at x h p q) (free_more x h q none)
-    judged_clean x h (Fault kind e) q p none =
-        faulty (length (x ∷ h)) kind e
-        (report_of_fault case_at x h kind e p q ∙ ap (λ (g : History). faulted (position g) kind e) (sym (first_all (x ∷ h))))
+    judged_clean x h None q p none = clean (report_of_clear case_at x h p q) (free_more x h q none)
+    judged_clean x h (Some f) q p none =
+        faulty (length (x ∷ h)) f.kind f.evidence
+        (report_of_fault case_at x h f.kind f.evidence p q ∙ ap (λ (g : History). faulted (position g) f.kind f.evidence) (sym (first_all (x ∷ h))))
         (record {
           within = omega arith;
           here = subst has (sym (first_all (x ∷ h))) (last (x ∷ h) (ap is_fault q));

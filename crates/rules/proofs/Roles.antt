@@ -11,8 +11,7 @@ use Rattle.record.specs.Named.{cause_of}
 use Rattle.record.specs.Records.{TraceRecord}
 use Rattle.record.proofs.Booleans.{none_some}
 use Rattle.rules.specs.History.{History, is_kind}
-use Rattle.rules.specs.Descriptors.{Entry, Role, puts, states, neither, created_role, descriptor_role, reached, role_of, entry_at, put_by, stated_by}
-use Rattle.rules.specs.Descriptors.{held_by, tells_put, tells_stated}
+use Rattle.rules.specs.Descriptors.{Entry, Role, puts, states, neither, created_role, descriptor_role, reached, role_of, entry_at, put_by, stated_by, held_by, tells_put, tells_stated}
 
 -- two different roles
 puts_states : {A : Type 0} {i j : ℕ} → puts i ≡ states j → A

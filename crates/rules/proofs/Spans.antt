@@ -1,4 +1,5 @@
 -- Laws of a record's spans: one that it does not have, whose keys are empty; two that meet; and loops over all of them.
+use Rattle.std.specs.Prelude.{None}
 use mathlib.Core.Path.{◌≡◌, refl, sym, ap, ◌∙◌}
 use mathlib.Core.Bool.{Bool, true, false}
 use mathlib.Core.List.{List, [], ◌∷◌}
@@ -8,10 +9,8 @@ use lib.ListN.{length, drop, drop_of_length-le, get_or-eq_default}
 use lib.Seq.{drop-cons}
 use Rattle.record.specs.Keys.{Key, key_in, key_ltb}
 use Rattle.record.specs.Records.{Span, TraceRecord, decode}
-use Rattle.rules.specs.declared.Case.{Case}
-use Rattle.rules.specs.declared.Case.TheVariants.{Clear}
+use Rattle.rules.specs.Cases.{Case, is_fault, or_case, first_case}
 use Rattle.rules.specs.History.{any_of}
-use Rattle.rules.specs.Cases.{is_fault, or_case, first_case}
 use Rattle.rules.specs.Descriptors.{span_of}
 use Rattle.rules.specs.OneOwnerPerKey.{meets}
 use Rattle.rules.proofs.CaseLists.{clear_of, or_case_fault}
@@ -80,6 +79,6 @@ module _ (x : TraceRecord) (i : ℕ) where
     unfolding first_case
     first_miss l e = rw (spans_step l) (or_next (f (span_of i x)) (first_case f (drop (i + 1) x.spans)) e)
 
-    pub first_end : length x.spans ≤ i → first_case f (drop i x.spans) ≡ Clear
+    pub first_end : length x.spans ≤ i → first_case f (drop i x.spans) ≡ None
     unfolding first_case
     first_end l = rw (drop_of_length-le x.spans l)

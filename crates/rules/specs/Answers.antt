@@ -1,9 +1,11 @@
 -- What a look-up answers for the number of the record that it found.
-use Rattle.std.specs.Prelude.{ℕ, zero, suc}
-use Rattle.rules.specs.declared.Found.{Found}
-use Rattle.rules.specs.declared.Found.TheVariants.{At, Nothing}
+use Rattle.std.specs.Prelude.{ℕ, zero, suc, Option, Some, None}
+
+-- the number of a record that was found, or nothing
+abbrev pub Found : Type 0
+Found = Option ℕ
 
 -- the record with a number, nothing for 0
 abbrev pub found_at : ℕ → Found
-found_at zero = Nothing
-found_at (suc k) = At (suc k)
+found_at zero = None
+found_at (suc k) = Some (suc k)

@@ -1,7 +1,6 @@
 -- Records, spans and keys for the tables of examples: a builder for each kind of record, with document 01's names of its numbers.
-use Rattle.std.specs.Prelude.{List, [], ◌∷◌, ◌++◌, ℕ, replicate}
-use Rattle.record.specs.declared.named.Node.{Node}
-use Rattle.record.specs.declared.named.Node.TheVariants.{Marked, Missing}
+use Rattle.std.specs.Prelude.{List, [], ◌∷◌, ◌++◌, ℕ, replicate, Some, None}
+use Rattle.record.specs.Named.{Node}
 use Rattle.record.specs.Keys.{Key}
 use Rattle.record.specs.Records.{Span, TraceRecord}
 
@@ -9,11 +8,11 @@ use Rattle.record.specs.Records.{Span, TraceRecord}
 
 -- marked with this node
 abbrev pub by : ℕ → Node
-by n = Marked (record { 0 = n })
+by n = Some (record { 0 = n })
 
 -- without a node
 abbrev pub unmarked : Node
-unmarked = Missing
+unmarked = None
 
 -- the letters that serve as keys
 abbrev pub a : Key

@@ -1,8 +1,7 @@
 -- The table of checks. How many there are, their words in the sheet, their kinds and their rules stand here and nowhere else.
-use Rattle.std.specs.Prelude.{Bool, true, false, List, [], ◌∷◌, map, ℕ, get_or, eqb}
+use Rattle.std.specs.Prelude.{Bool, true, false, List, [], ◌∷◌, map, ℕ, get_or, eqb, None}
 use Prim.Native.String.{String}
-use Rattle.rules.specs.declared.Case.{Case}
-use Rattle.rules.specs.declared.Case.TheVariants.{Clear}
+use Rattle.rules.specs.Cases.{Case}
 use Rattle.rules.specs.declared.Opening.{Opening}
 use Rattle.rules.specs.declared.Report.{Report}
 use Rattle.rules.specs.History.{History, any_of}
@@ -50,7 +49,7 @@ check_count = 8
 
 -- the check at a place of the table; past its end one that has no fault
 abbrev pub check_at : ℕ → Check
-check_at k = get_or checks k (record { name = ""; kinds = 0; concerns = []; rule = at_record (λ o x h. Clear); history = false })
+check_at k = get_or checks k (record { name = ""; kinds = 0; concerns = []; rule = at_record (λ o x h. None); history = false })
 
 -- what a rule says of a beginning: of its last record, or of it as a whole
 abbrev pub case_by : Rule → Opening → History → Case

@@ -1,19 +1,15 @@
 -- `Descriptors`: the values of ranges, their look-ups, and agreement.
 use Rattle.std.specs.Prelude.{◌≡◌, Bool, true, false, cond, not, ◌&&◌, ◌||◌, List, [], ◌∷◌, ℕ, length, get_or, eqb, ltb, leb, Option, None, Some}
-use Rattle.record.specs.declared.named.Node.{Node}
-use Rattle.record.specs.declared.named.Node.TheVariants.{Marked, Missing}
+use Rattle.record.specs.Named.{Node, cause_of, state_of, state_number}
 use Rattle.record.specs.declared.named.RangeCause.{RangeCause}
 use Rattle.record.specs.declared.named.RangeCause.TheVariants.{Bootstrap, Split, Snapshot}
 use Rattle.record.specs.declared.named.RangeState.{RangeState}
 use Rattle.record.specs.declared.named.RangeState.TheVariants.{Live}
 use Rattle.record.specs.Keys.{Key, key_eqb, list_eqb}
-use Rattle.record.specs.Named.{cause_of, state_of, state_number}
 use Rattle.record.specs.Records.{Span, TraceRecord}
-use Rattle.rules.specs.declared.Case.{Case}
-use Rattle.rules.specs.declared.Case.TheVariants.{Clear}
+use Rattle.rules.specs.Cases.{Case, fault, fault_if, or_case, case_of, earliest_case}
 use Rattle.rules.specs.Views.{range_of, generation_by, applied_by, created_by, descriptor_by}
 use Rattle.rules.specs.History.{History, number_after, is_kind, is_by, when, holds, latest, told, firsts, latest_of, earliest_of, greatest_of, lowest_of}
-use Rattle.rules.specs.Cases.{fault, fault_if, or_case, case_of, earliest_case}
 
 -- a record's span number k, empty where it has none
 abbrev pub span_of : ℕ → TraceRecord → Span
@@ -71,8 +67,8 @@ applied node range h = latest (tells_applied node range) h
 
 -- "a statement at its applied index when marked and a known applied index is at least that"
 unfoldable pub reached : TraceRecord → History → Node → Bool
-reached x h Missing = false
-reached x h (Marked n) = holds (λ known. leb (descriptor_by x).applied known) (applied n.0 (descriptor_by x).range h)
+reached x h None = false
+reached x h (Some n) = holds (λ known. leb (descriptor_by x).applied known) (applied n.0 (descriptor_by x).range h)
 
 -- what a record does: it puts its value at an index, states it at one, or neither
 pub data Role : Type 0 where
@@ -148,13 +144,13 @@ first_at_generation_in range generation vs = earliest_of (λ v. eqb v.range rang
 
 -- a put that "differs from the standing value"
 unfoldable pub put_fault : Option Entry → List Entry → Case
-put_fault None vs = Clear
+put_fault None vs = None
 put_fault (Some p) vs =
     case_of (λ v. fault_if (not (held_eqb v.held p.held)) (fault 1 (p.range ∷ p.index ∷ []))) (latest_of (same_place p) vs)
 
 -- kind 1 of a beginning: the earliest put that differs from the value that stands at its range and index
 unfoldable pub puts_differ : History → Case
-puts_differ [] = Clear
+puts_differ [] = None
 puts_differ (x ∷ h) = or_case (puts_differ h) (put_fault (tells_put x h) (standing h))
 
 -- "Larger generation: fault only if a value at a higher index has that generation (kind 2: range, index, lowest such index)"

@@ -5,8 +5,7 @@ use Rattle.record.specs.Records.{TraceRecord}
 use Rattle.rules.specs.History.{History}
 use Rattle.rules.specs.Events.{events, records_in, stray}
 use Rattle.rules.specs.Reports.{passed}
-use Rattle.rules.specs.Builders.{by, a, b, c, d, e, f, span, bootstrap, snapshot, created, split_off, descriptor, write, restated, crashed}
-use Rattle.rules.specs.Builders.{installed, leased, put, meta_applied, flagged, marked}
+use Rattle.rules.specs.Builders.{by, a, b, c, d, e, f, span, bootstrap, snapshot, created, split_off, descriptor, write, restated, crashed, installed, leased, put, meta_applied, flagged, marked}
 use Rattle.rules.specs.Examples.{Row, agreement, overlap, install, twice, half, generations, ids, meta, row, fault_at, holding, named, indebted}
 
 -- an event of three records, and after it the faulty traces of E6, E5, E9, E7, E2 and others: each check's position counts it once

@@ -1,7 +1,6 @@
 -- Events: which records continue one, how many a history has, its beginnings by events, and what may not continue.
-use Rattle.std.specs.Prelude.{Bool, true, false, cond, not, ◌&&◌, [], ◌∷◌, ℕ, suc, ◌-◌, length, drop, eqb, leb}
-use Rattle.record.specs.declared.named.Node.{Node}
-use Rattle.record.specs.declared.named.Node.TheVariants.{Marked, Missing}
+use Rattle.std.specs.Prelude.{Bool, true, false, cond, not, ◌&&◌, [], ◌∷◌, ℕ, suc, ◌-◌, length, drop, eqb, leb, Some, None}
+use Rattle.record.specs.Named.{Node}
 use Rattle.record.specs.Records.{TraceRecord}
 use Rattle.rules.specs.History.{History, is_kind}
 
@@ -41,10 +40,10 @@ first_events n h = first (records_in n h) h
 
 -- "the same node mark, node": both are marked with one node, or neither is marked
 abbrev pub same_node : Node → Node → Bool
-same_node (Marked m) (Marked n) = eqb m.0 n.0
-same_node (Marked m) Missing = false
-same_node Missing (Marked n) = false
-same_node Missing Missing = true
+same_node (Some m) (Some n) = eqb m.0 n.0
+same_node (Some m) None = false
+same_node None (Some n) = false
+same_node None None = true
 
 -- y is "kind 12 with the same node mark, node and index" as x
 abbrev pub goes_on : TraceRecord → TraceRecord → Bool

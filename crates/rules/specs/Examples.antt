@@ -7,8 +7,7 @@ use Rattle.rules.specs.declared.Verdict.TheVariants.{Pass, Faulted}
 use Rattle.rules.specs.Cases.{evidence}
 use Rattle.rules.specs.Reports.{passed, faulted, report_of}
 use Rattle.rules.specs.Checks.{check_at, case_at}
-use Rattle.rules.specs.Builders.{by, b, c, d, f, span, bootstrap, snapshot, created, descriptor, write, restated, crashed, range_split, leased}
-use Rattle.rules.specs.Builders.{put, meta_applied}
+use Rattle.rules.specs.Builders.{by, b, c, d, f, span, bootstrap, snapshot, created, descriptor, write, restated, crashed, range_split, leased, put, meta_applied}
 
 -- ---- rows
 

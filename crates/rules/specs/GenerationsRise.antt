@@ -5,10 +5,9 @@ use Rattle.record.specs.declared.named.ApplyEffect.TheVariants.{Applied}
 use Rattle.record.specs.Keys.{Key, key_eqb}
 use Rattle.record.specs.Named.{effect_of, effect_number}
 use Rattle.record.specs.Records.{TraceRecord}
-use Rattle.rules.specs.declared.Case.{Case}
+use Rattle.rules.specs.Cases.{Case, fault, fault_if, case_of}
 use Rattle.rules.specs.Views.{apply_by}
 use Rattle.rules.specs.History.{History, is_kind, when, any_of, holds, firsts, latest_of}
-use Rattle.rules.specs.Cases.{fault, fault_if, case_of}
 use Rattle.rules.specs.Descriptors.{Entry, span_of, before}
 
 -- a RaftApply with this effect

@@ -1,7 +1,6 @@
 -- The records taken, newest first, and the ways of looking back at them.
 use Rattle.std.specs.Prelude.{Bool, true, false, cond, ◌||◌, List, [], ◌∷◌, ℕ, suc, length, eqb, ltb, Option, None, Some}
-use Rattle.record.specs.declared.named.Node.{Node}
-use Rattle.record.specs.declared.named.Node.TheVariants.{Marked, Missing}
+use Rattle.record.specs.Named.{Node}
 use Rattle.record.specs.Records.{TraceRecord}
 
 -- the records taken, newest first: in `x ∷ h` the records before x are h, and the beginnings are the ends of the list
@@ -18,8 +17,8 @@ is_kind k x = eqb x.kind k
 
 -- the record is marked with this node
 abbrev pub by_node : ℕ → Node → Bool
-by_node n Missing = false
-by_node n (Marked m) = eqb m.0 n
+by_node n None = false
+by_node n (Some m) = eqb m.0 n
 
 abbrev pub is_by : ℕ → TraceRecord → Bool
 is_by n x = by_node n x.node

@@ -1,9 +1,8 @@
 -- `IdsUnique`: the grants of ids, their blocks, and the ids check.
 use Rattle.std.specs.Prelude.{Bool, cond, not, ◌&&◌, List, [], ◌∷◌, ℕ, eqb, leb, Option, None, Some}
 use Rattle.record.specs.Records.{TraceRecord}
-use Rattle.rules.specs.declared.Case.{Case}
+use Rattle.rules.specs.Cases.{Case, fault, fault_if, case_of}
 use Rattle.rules.specs.History.{History, is_kind, when, any_of, those, firsts, latest_of, greatest_of}
-use Rattle.rules.specs.Cases.{fault, fault_if, case_of}
 
 -- "11 RangeIdsLeased: A node, B index, C run, D first, E last"
 pub record Grant : Type 0 where

@@ -2,11 +2,9 @@
 use Rattle.std.specs.Prelude.{◌≡◌, Bool, true, false, cond, not, ◌&&◌, ◌||◌, List, [], ◌∷◌, ℕ, length, ltb, leb, Option, None, Some}
 use Rattle.record.specs.Keys.{Key, key_ltb, key_eqb, list_eqb, inside, Lt, Le}
 use Rattle.record.specs.Records.{TraceRecord}
-use Rattle.rules.specs.declared.Case.{Case}
-use Rattle.rules.specs.declared.Case.TheVariants.{Clear}
+use Rattle.rules.specs.Cases.{Case, fault, is_fault, fault_if, or_case, case_of}
 use Rattle.rules.specs.Views.{meta_by}
 use Rattle.rules.specs.History.{History, is_kind, when, told, greatest_of}
-use Rattle.rules.specs.Cases.{fault, is_fault, fault_if, or_case, case_of}
 use Rattle.rules.specs.Descriptors.{Held, Entry, span_of, first_at_generation}
 
 -- kinds 1 and 2: "`first_at_generation` has nothing", or "start, end or voters differ from it"; "Both: range, generation, index"
@@ -82,7 +80,7 @@ pub record FirstFaultyKey (f : Key → Case) (s e k : Key) : Type 0 where
 -- .. and c is the case at which the walk stops, that key's; or Clear, where no key is faulty
 pub data FirstFaulty (f : Key → Case) (s e : Key) (c : Case) : Type 0 where
   at : (k : Key) → FirstFaultyKey f s e k → c ≡ f k → FirstFaulty f s e c
-  clean : ((k : Key) → Le s k → Lt k e → is_fault (f k) ≡ false) → c ≡ Clear → FirstFaulty f s e c
+  clean : ((k : Key) → Le s k → Lt k e → is_fault (f k) ≡ false) → c ≡ None → FirstFaulty f s e c
 
 -- the case of a won span. Only its start and the ends of names are looked at, and it is the one `FirstFaulty` of the span all
 -- the same: `won_fault_right` in proofs/MetaLeast.antt

@@ -3,9 +3,7 @@ use Rattle.std.specs.Prelude.{List, [], ◌∷◌, ◌++◌, ℕ, replicate}
 use Rattle.record.specs.Keys.{Key}
 use Rattle.record.specs.Records.{TraceRecord}
 use Rattle.rules.specs.Reports.{passed}
-use Rattle.rules.specs.Builders.{by, unmarked, a, b, c, d, e, f, g, group_key, span, bootstrap, split, snapshot, live, merging, subsumed, applied}
-use Rattle.rules.specs.Builders.{took, created, descriptor, put_in, put, keyed, write, apply, recovered, crashed, range_split, installed, removed}
-use Rattle.rules.specs.Builders.{refused, leased, meta_for, meta_applied}
+use Rattle.rules.specs.Builders.{by, unmarked, a, b, c, d, e, f, g, group_key, span, bootstrap, split, snapshot, live, merging, subsumed, applied, took, created, descriptor, put_in, put, keyed, write, apply, recovered, crashed, range_split, installed, removed, refused, leased, meta_for, meta_applied}
 use Rattle.rules.specs.Examples.{Row, agreement, overlap, install, twice, generations, ids, meta, row, row_under, fault_at, holding, disputed}
 
 -- ---- agreement

@@ -1,21 +1,18 @@
 -- `OneOwnerPerKey`: what a node holds, and the checks overlap, install and twice.
 use Rattle.std.specs.Prelude.{Bool, cond, not, ◌&&◌, ◌||◌, List, [], ◌∷◌, ℕ, length, take, drop, eqb, leb, Option, None, Some}
-use Rattle.record.specs.declared.named.Node.{Node}
-use Rattle.record.specs.declared.named.Node.TheVariants.{Marked, Missing}
+use Rattle.record.specs.Named.{Node}
 use Rattle.record.specs.Keys.{Key, key_ltb}
 use Rattle.record.specs.Numbers.{big_endian}
 use Rattle.record.specs.Records.{Span, TraceRecord}
-use Rattle.rules.specs.declared.Case.{Case}
-use Rattle.rules.specs.declared.Case.TheVariants.{Clear}
+use Rattle.rules.specs.Cases.{Case, fault, fault_if, case_of, first_case}
 use Rattle.rules.specs.Views.{range_of, created_by}
 use Rattle.rules.specs.History.{History, is_kind, is_by, when, Change, becomes, ends, lasting, is_some, holds, any_of, told, latest, lowest_of}
-use Rattle.rules.specs.Cases.{fault, fault_if, case_of, first_case}
 use Rattle.rules.specs.Descriptors.{span_of}
 
 -- what a check says of a record by its node: "Without a node the record ends its step here"
 abbrev pub by_marked : (ℕ → Case) → Node → Case
-by_marked f Missing = Clear
-by_marked f (Marked n) = f n.0
+by_marked f None = None
+by_marked f (Some n) = f n.0
 
 -- "Kinds 1 and 2 make the node hold the range over the span"
 abbrev pub is_holding : TraceRecord → Bool

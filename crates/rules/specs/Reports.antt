@@ -1,22 +1,20 @@
 -- What is reported of a history: a check's fault of a beginning, the first fault by events, and the report.
-use Rattle.std.specs.Prelude.{◌≡◌, true, false, [], ◌∷◌, ◌⊎◌, ℕ, ◌≤◌, ◌<◌, length}
+use Rattle.std.specs.Prelude.{◌≡◌, true, false, [], ◌∷◌, ◌⊎◌, ℕ, ◌≤◌, ◌<◌, length, None, Some}
 use Rattle.record.specs.Records.{TraceRecord}
-use Rattle.rules.specs.declared.Case.{Case}
-use Rattle.rules.specs.declared.Case.TheVariants.{Clear, Fault}
+use Rattle.rules.specs.Cases.{Case, fault_with, evidence, is_fault}
 use Rattle.rules.specs.declared.Evidence.{Evidence}
 use Rattle.rules.specs.declared.Report.{Report}
 use Rattle.rules.specs.declared.Verdict.{Verdict}
 use Rattle.rules.specs.declared.Verdict.TheVariants.{Pass, Faulted}
 use Rattle.rules.specs.History.{History}
 use Rattle.rules.specs.Events.{continues, first, events, position, first_events}
-use Rattle.rules.specs.Cases.{evidence, is_fault}
 
 -- what a check says of a record, judged by it and those before, and so of a beginning's last record
 abbrev pub AtRecord : Type 0
 AtRecord = TraceRecord → History → Case
 
 abbrev pub at_last : AtRecord → History → Case
-at_last f [] = Clear
+at_last f [] = None
 at_last f (x ∷ h) = f x h
 
 -- the beginning has agreement's fault as a whole ..
@@ -40,7 +38,7 @@ faulted n kind e = record { verdict = Faulted kind; at = n; evidence = e }
 pub record FirstCase (case_at : History → Case) (g : History) (kind : ℕ) (e : Evidence) : Type 0 where
   pub number : ℕ
   pub within : number ≤ length g
-  pub here : case_at (first number g) ≡ Fault kind e
+  pub here : case_at (first number g) ≡ fault_with kind e
   pub earlier : (k : ℕ) → k < number → is_fault (case_at (first k g)) ≡ false
 
 -- "a fault at event n exactly when the first n events taken have that fault and no shorter beginning has it, with that first
@@ -69,8 +67,8 @@ Steady f = (x : TraceRecord) (h : History) → continues x ≡ true → f (x ∷
 -- the report after one more record, of which the check says c: "after a fault the report stays"
 abbrev pub at_first : Verdict → Report → Case → ℕ → Report
 at_first (Faulted kind) r c n = r
-at_first Pass r Clear n = r
-at_first Pass r (Fault kind e) n = faulted n kind e
+at_first Pass r None n = r
+at_first Pass r (Some f) n = faulted n f.kind f.evidence
 
 -- the report of a history: its first fault
 unfoldable pub report_of : (History → Case) → History → Report

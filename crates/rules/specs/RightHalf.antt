@@ -1,17 +1,13 @@
 -- `OneOwnerPerKey`, the right half's clause: what a node owes after a split, and the half check.
 use Rattle.std.specs.Prelude.{Bool, true, false, cond, not, ◌&&◌, ◌||◌, List, [], ◌∷◌, map, ℕ, eqb, leb, Option, None, Some}
-use Rattle.record.specs.declared.named.Node.{Node}
-use Rattle.record.specs.declared.named.Node.TheVariants.{Marked, Missing}
+use Rattle.record.specs.Named.{Node, cause_of, cause_number}
 use Rattle.record.specs.declared.named.ServerId.{ServerId}
 use Rattle.record.specs.declared.named.RangeCause.TheVariants.{Split}
 use Rattle.record.specs.declared.named.ApplyEffect.TheVariants.{Took}
-use Rattle.record.specs.Named.{cause_of, cause_number}
 use Rattle.record.specs.Records.{TraceRecord}
-use Rattle.rules.specs.declared.Case.{Case}
+use Rattle.rules.specs.Cases.{Case, fault, fault_if, or_case, case_of}
 use Rattle.rules.specs.Views.{range_of, created_by, descriptor_by, apply_by, recovered_by}
-use Rattle.rules.specs.History.{History, Change, becomes, ends, lasting, is_kind, is_by, when, or_else, is_some}
-use Rattle.rules.specs.History.{holds, given, any_of, told, latest, firsts, greatest_of, lowest_of}
-use Rattle.rules.specs.Cases.{fault, fault_if, or_case, case_of}
+use Rattle.rules.specs.History.{History, Change, becomes, ends, lasting, is_kind, is_by, when, or_else, is_some, holds, given, any_of, told, latest, firsts, greatest_of, lowest_of}
 use Rattle.rules.specs.GenerationsRise.{has_effect}
 use Rattle.rules.specs.OneOwnerPerKey.{by_marked, has_hold}
 
@@ -73,8 +69,8 @@ pending_split x None = None
 pending_split x (Some p) = when (uses_up x p) (record { parent = p.parent; index = p.index; right = p.right; voters = x.voters })
 
 abbrev pub split_by : TraceRecord → History → Node → Option Registered
-split_by x h Missing = None
-split_by x h (Marked n) = or_else (created_split x) (pending_split x (pending n.0 h))
+split_by x h None = None
+split_by x h (Some n) = or_else (created_split x) (pending_split x (pending n.0 h))
 
 abbrev pub tells_split : TraceRecord → History → Option Registered
 tells_split x h = split_by x h x.node
@@ -188,8 +184,8 @@ missing_fault kind node h =
 
 -- the nodes that records are marked with
 abbrev pub node_number : Node → Option ℕ
-node_number Missing = None
-node_number (Marked n) = Some n.0
+node_number None = None
+node_number (Some n) = Some n.0
 
 unfoldable pub nodes_of : History → List ℕ
 nodes_of h = told (λ x _. node_number x.node) h

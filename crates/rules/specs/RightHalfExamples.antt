@@ -3,8 +3,7 @@
 use Rattle.std.specs.Prelude.{List, [], ◌∷◌, ◌++◌}
 use Rattle.record.specs.Records.{TraceRecord}
 use Rattle.rules.specs.Reports.{passed}
-use Rattle.rules.specs.Builders.{by, unmarked, d, f, span, record_of, bootstrap, snapshot, applied, took, created, child, split_off, orphan, tells}
-use Rattle.rules.specs.Builders.{apply, recovered, restated, crashed, range_split, removed, refused}
+use Rattle.rules.specs.Builders.{by, unmarked, d, f, span, record_of, bootstrap, snapshot, applied, took, created, child, split_off, orphan, tells, apply, recovered, restated, crashed, range_split, removed, refused}
 use Rattle.rules.specs.Examples.{Row, half, row, fault_at, indebted}
 
 -- node 2 registers the split of range 2 at index 5, with range 7 and voter 1

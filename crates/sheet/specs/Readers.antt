@@ -1,6 +1,6 @@
 -- For readers: what each line of a printed sheet says of the bytes that were on standard input.
 use Rattle.std.specs.Prelude.{◌≡◌, List, [], ◌⊎◌, ℕ, ◌+◌, ◌*◌, ◌<◌, length, take}
-use Rattle.rules.specs.declared.Case.{Case}
+use Rattle.rules.specs.Cases.{Case}
 use Rattle.rules.specs.declared.Evidence.{Evidence}
 use Rattle.rules.specs.History.{History}
 use Rattle.rules.specs.Reports.{FirstFault, Free}

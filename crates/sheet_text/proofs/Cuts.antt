@@ -15,8 +15,7 @@ use Rattle.rules.specs.declared.Verdict.TheVariants.{Pass, Faulted}
 use Rattle.rules.specs.Reports.{passed}
 use Rattle.rules.specs.Checks.{check_count}
 use Rattle.record.proofs.Booleans.{and_left, and_right}
-use Rattle.sheet_text.specs.Sheets.{text, decimal, spaced, evidence_text, pass_line, fault_line, line_of, line, name_at, lines_to, refused_text, last_line}
-use Rattle.sheet_text.specs.Sheets.{sheet_text, first_line, after_line, line_at}
+use Rattle.sheet_text.specs.Sheets.{text, decimal, spaced, evidence_text, pass_line, fault_line, line_of, line, name_at, lines_to, refused_text, last_line, sheet_text, first_line, after_line, line_at}
 use Rattle.sheet_text.proofs.Names.{worded, name_worded}
 use Rattle.sheet_text.proofs.ReadBack.{Digits, decimal_digits}
 

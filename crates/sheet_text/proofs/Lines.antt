@@ -13,8 +13,7 @@ use Rattle.rules.specs.declared.Verdict.{Verdict}
 use Rattle.rules.specs.declared.Verdict.TheVariants.{Pass, Faulted}
 use Rattle.rules.specs.Reports.{passed}
 use Rattle.rules.specs.Checks.{check_count}
-use Rattle.sheet_text.specs.Sheets.{text, spaced, pass_line, fault_line, line_of, line, name_at, line_size, lines_to, lines, lines_size}
-use Rattle.sheet_text.specs.Sheets.{refused_text, last_line}
+use Rattle.sheet_text.specs.Sheets.{text, spaced, pass_line, fault_line, line_of, line, name_at, line_size, lines_to, lines, lines_size, refused_text, last_line}
 use Rattle.sheet_text.specs.Appends.{Appended}
 use Rattle.sheet_text.proofs.Appends.{appended_none, appended_most, ◌⨾◌}
 

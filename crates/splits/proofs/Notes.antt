@@ -22,8 +22,7 @@ use Rattle.one_owner_per_key.proofs.Walks.{bucket_below}
 use Rattle.record.proofs.Booleans.{decide}
 use Rattle.splits.specs.declared.note.Cells.{Cells}
 use Rattle.splits.specs.Numbers.{named_number}
-use Rattle.splits.specs.Columns.{split_bucket, by_split, recorded_bucket, records_by, by_recording, server_cell, restated_cell, refused_cell, pending_cell}
-use Rattle.splits.specs.Columns.{registered_cell, Known, HalfNoted, Celled, CellsPut, EnteredWhen}
+use Rattle.splits.specs.Columns.{split_bucket, by_split, recorded_bucket, records_by, by_recording, server_cell, restated_cell, refused_cell, pending_cell, registered_cell, Known, HalfNoted, Celled, CellsPut, EnteredWhen}
 use Rattle.splits.specs.Splits.{parent_by, split_with, split_as}
 use Rattle.splits.proofs.Splits.{registers_as_lem}
 

@@ -1,4 +1,5 @@
 -- Laws of what a record leaves in the columns: each cell with the record, and the columns one record on.
+use Rattle.std.specs.Prelude.{Some, None}
 use mathlib.Core.Path.{◌≡◌, refl, sym, ap, ◌∙◌}
 use mathlib.Core.Bool.{not-not, Bool, true, false, cond, not, ◌&&◌, ◌||◌}
 use mathlib.Core.List.{List, ◌∷◌}
@@ -9,7 +10,6 @@ use lib.ListN.{length, get_or}
 use lib.Dec.{eqb, eqb-suc-zero}
 use borrow.Author.Tests.{eq-eqb, ne_eqb}
 use Rattle.record.specs.declared.named.NodeId.{NodeId}
-use Rattle.record.specs.declared.named.Node.TheVariants.{Marked, Missing}
 use Rattle.record.specs.Records.{TraceRecord}
 use Rattle.rules.specs.History.{History, is_kind, is_by, holds}
 use Rattle.rules.specs.RightHalf.{pending_by, uses_up, pending}
@@ -23,7 +23,6 @@ use Rattle.one_owner_per_key.proofs.Latest.{number_none, number_bound, number_st
 use Rattle.splits.specs.Numbers.{restated_number, refuses, refused_number, pending_number, is_registering, latest_registering, named_number}
 use Rattle.splits.specs.Columns.{records_by, server_cell, restated_cell, refused_cell, pending_cell, registered_cell, registering_in}
 use Rattle.splits.proofs.States.{server_cell_lem, restated_step, pending_step, restated_cell_lem, refused_cell_lem, restated_mark, pending_as, pending_is}
-use Rattle.rules.proofs.Servers.{server_number}
 use Rattle.rules.proofs.Servers.{server_number, server_step}
 use Rattle.splits.proofs.Registered.{registering_is}
 
@@ -116,7 +115,7 @@ module _ (log : List ℕ) {count cap : ℕ} {work : List ℕ} (col : Column (cel
 
 -- ---- recording
 
-pub records_after : (x : TraceRecord) (h : History) (node : NodeId) {r : Bool} {s : ℕ} → x.node ≡ Marked node → r ≡ is_kind 2 x && eqb s 0
+pub records_after : (x : TraceRecord) (h : History) (node : NodeId) {r : Bool} {s : ℕ} → x.node ≡ Some node → r ≡ is_kind 2 x && eqb s 0
     → s ≡ restated_number node.0 h → r ≡ records_by x h x.node
 records_after x h node {r} {s} m e f =
     e ∙ rw (m, restated_mark node.0 h, ← f, not-not (eqb s 0))
@@ -127,11 +126,11 @@ either : (t : Bool) → ◌≡◌ {A = ℕ} 0 (cond t 0 0)
 either true = refl
 either false = refl
 
-pub named_unmarked : (x : TraceRecord) (h : History) → x.node ≡ Missing → 0 ≡ named_number x h
+pub named_unmarked : (x : TraceRecord) (h : History) → x.node ≡ None → 0 ≡ named_number x h
 unfolding named_number
 named_unmarked x h e = either (is_registering x h) ∙ ap (λ (k : ℕ). cond (is_registering x h) k 0) (sym (ap (word_by _) e))
 
-module _ (x : TraceRecord) (h : History) (e : x.node ≡ Missing) where
+module _ (x : TraceRecord) (h : History) (e : x.node ≡ None) where
   pub server_unmarked : 0 ≡ server_cell x h
   unfolding server_cell
   server_unmarked = sym (ap (word_by _) e)

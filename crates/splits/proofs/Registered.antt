@@ -11,8 +11,7 @@ use native.Mathlib.Omega.{arith}
 use native.Mathlib.Decide.{ℕ_discrete}
 use lib.Dec.{eqb}
 use borrow.Author.Tests.{eqb-false, ne_eqb, not-true}
-use Rattle.record.specs.declared.named.Node.{Node}
-use Rattle.record.specs.declared.named.Node.TheVariants.{Marked, Missing}
+use Rattle.record.specs.Named.{Node}
 use Rattle.record.specs.Records.{TraceRecord}
 use Rattle.record.proofs.Booleans.{none_some, never}
 use Rattle.rules.specs.History.{is_kind, is_some}
@@ -86,8 +85,8 @@ not_created : (x : TraceRecord) → is_kind 1 x ≡ false → is_some (created_s
 not_created x e = rw e
 
 word_cases : (log : List ℕ) (n : ℕ) (x : TraceRecord) (m : Node) → is_kind 1 x ≡ false → word_by (λ k. names_number k x (hist log n)) m ≤ n
-word_cases log n x Missing e = omega arith
-word_cases log n x (Marked m) e = rw (not_created x e) (go (is_some (pending_split x (pending m.0 (hist log n)))))
+word_cases log n x None e = omega arith
+word_cases log n x (Some m) e = rw (not_created x e) (go (is_some (pending_split x (pending m.0 (hist log n)))))
   where
     go : (b : Bool) → cond b (pending_number m.0 (hist log n)) 0 ≤ n
     go true = pending_bound m.0 log n

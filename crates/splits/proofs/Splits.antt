@@ -9,16 +9,12 @@ use native.Mathlib.Numerals.{add-one}
 use lib.ListN.{length}
 use lib.Dec.{eqb, ltb, eqb-suc-zero}
 use borrow.Author.Tests.{eqb-true, eqb-false, eq-eqb, ne_eqb, ltb-false, le-ltb}
-use Rattle.record.specs.declared.named.Node.{Node}
+use Rattle.record.specs.Named.{Node, cause_of, cause_number}
 use Rattle.record.specs.declared.named.NodeId.{NodeId}
-use Rattle.record.specs.declared.named.Node.TheVariants.{Marked, Missing}
 use Rattle.record.specs.declared.named.RangeCause.TheVariants.{Split}
-use Rattle.record.specs.Named.{cause_of, cause_number}
 use Rattle.record.specs.Records.{TraceRecord}
 use Rattle.rules.specs.History.{History, is_kind, when, or_else, is_some, holds, given, any_of, add_some, firsts}
-use Rattle.rules.specs.RightHalf.{pending_by, uses_up, pending, Registered, created_split, pending_split, split_by, tells_split, is_split, registered}
-use Rattle.rules.specs.RightHalf.{is_registered}
-use Rattle.rules.specs.RightHalf.{unless_known, registers}
+use Rattle.rules.specs.RightHalf.{pending_by, uses_up, pending, Registered, created_split, pending_split, split_by, tells_split, is_split, registered, is_registered, unless_known, registers}
 use Rattle.rules.proofs.Once.{registered_step}
 use Rattle.rules.proofs.Skips.{any_of_nil}
 use Rattle.history.specs.Logs.{record_at, hist}
@@ -110,8 +106,8 @@ module _ (log : List ℕ) (x : TraceRecord) where
   pending_names node n = rw (pending_is node log n) (pending_cases (pending_number node (hist log n)) (eqb (pending_number node (hist log n)) 0) refl)
 
   entered_by_node : (n : ℕ) (m : Node) → split_by x (hist log n) m ≡ split_as log x (word_by (λ k. names_number k x (hist log n)) m)
-  entered_by_node n Missing = refl
-  entered_by_node n (Marked m) =
+  entered_by_node n None = refl
+  entered_by_node n (Some m) =
       created_cases (length (hist log n)) _ (is_kind 1 x) (eqb (cause_number (cause_of x.code)) (cause_number Split)) (eqb x.flag 1) refl
       (pending_split x (pending m.0 (hist log n)))
       (λ e. pending_names m.0 n)
@@ -218,7 +214,7 @@ module _ (parent index : ℕ) where
 
 -- ---- what the code makes of them: m names the split of x, k registered one of its parent and index
 
-module _ (log : List ℕ) (x : TraceRecord) (n : ℕ) (node : NodeId) (marked : x.node ≡ Marked node) {m : ℕ} (e : m ≡ names_number node.0 x (hist log n)) where
+module _ (log : List ℕ) (x : TraceRecord) (n : ℕ) (node : NodeId) (marked : x.node ≡ Some node) {m : ℕ} (e : m ≡ names_number node.0 x (hist log n)) where
   by_names : named_number x (hist log n) ≡ unless_named log x m (is_registered (parent_by x) x.b (hist log n))
   by_names =
       named_is log x n

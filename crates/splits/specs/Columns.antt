@@ -1,14 +1,12 @@
 -- The columns of nodes and splits in the work area, each word a written function of the history, and what a note promises of them.
-use Rattle.std.specs.Prelude.{◌≡◌, Bool, true, false, cond, not, ◌&&◌, List, ◌∷◌, ℕ, ◌+◌, ◌-◌, ◌*◌, ◌/◌, ◌%◌, ◌≤◌, ◌<◌, length, get_or, eqb, Some}
-use Rattle.record.specs.declared.named.Node.{Node}
-use Rattle.record.specs.declared.named.Node.TheVariants.{Marked, Missing}
+use Rattle.std.specs.Prelude.{◌≡◌, Bool, true, false, cond, not, ◌&&◌, List, ◌∷◌, ℕ, ◌+◌, ◌-◌, ◌*◌, ◌/◌, ◌%◌, ◌≤◌, ◌<◌, length, get_or, eqb, Some, None}
+use Rattle.record.specs.Named.{Node}
 use Rattle.record.specs.Records.{TraceRecord}
 use Rattle.rules.specs.History.{History, Tells, is_kind, when, given}
 use Rattle.rules.specs.RightHalf.{server_of, is_restated, registers}
 use Rattle.history.specs.Buckets.{mix, mix_after, bucket}
 use Rattle.history.specs.Columns.{Column, cell_of, Chained, clamp, Entered}
-use Rattle.history.specs.Places.{server_at, restated_at, refused_at, pending_at, registered_by, latest_name, split_heads, split_links, recorded_heads}
-use Rattle.history.specs.Places.{recorded_links}
+use Rattle.history.specs.Places.{server_at, restated_at, refused_at, pending_at, registered_by, latest_name, split_heads, split_links, recorded_heads, recorded_links}
 use Rattle.one_owner_per_key.specs.Columns.{word_by, OwnersIndexed}
 use Rattle.splits.specs.declared.note.Cells.{Cells}
 use Rattle.splits.specs.Numbers.{restated_number, refused_number, pending_number, latest_registering, named_number}
@@ -28,8 +26,8 @@ recorded_bucket cap range = bucket cap (mix range)
 
 -- "While not restated, kind 2 also records that applied index for the range"
 abbrev pub records_by : TraceRecord → History → Node → Bool
-records_by x h Missing = false
-records_by x h (Marked n) = is_kind 2 x && not (is_restated n.0 h)
+records_by x h None = false
+records_by x h (Some n) = is_kind 2 x && not (is_restated n.0 h)
 
 unfoldable pub by_recording : ℕ → Tells ℕ
 by_recording cap x h = when (records_by x h x.node) (recorded_bucket cap x.a)

@@ -23,7 +23,7 @@ use history::place::{
 };
 use one_owner_per_key::held::latest_of;
 use record::field;
-use record::named::{Node, NodeId};
+use record::named::NodeId;
 
 // What is written of a record: the cells; the record that names the right range of the split it registers; whether it
 // records an index.
@@ -130,7 +130,7 @@ fn cells_of(log: &[u8], work: &[u64], count: usize, cap: usize, rec: &[u8]) -> C
     ensures { Known cap (hist log.now count) work.now → Celled (decode rec.now) (hist log.now count) result }
 {
     let marked = field::node(rec);
-    let Node::Marked(node) = marked else {
+    let Some(node) = marked else {
         return Cells {
             server: 0,
             restated: 0,

@@ -1,6 +1,5 @@
 // Splits: who registers one, with which right range and voters, and the record that registered (parent, index).
-ghost use Rattle.std.specs.Prelude.{◌≡◌, false, ◌&&◌, ℕ, ◌+◌, ◌*◌, ◌≤◌, ◌<◌, length, eqb};
-ghost use Rattle.record.specs.declared.named.Node.TheVariants.{Marked};
+ghost use Rattle.std.specs.Prelude.{◌≡◌, false, ◌&&◌, ℕ, ◌+◌, ◌*◌, ◌≤◌, ◌<◌, length, eqb, Some};
 ghost use Rattle.record.specs.declared.named.ApplyEffect.TheVariants.{Took};
 ghost use Rattle.record.specs.Records.{decode};
 ghost use Rattle.rules.specs.History.{is_kind, is_some, any_of};
@@ -151,7 +150,7 @@ pub fn registers(
 ) -> usize
     requires { Bounds log.now work.now count cap × ((length rec.now ≡ 368) × (last ≤ count)) }
     ensures within { result ≤ count + 1 }
-    ensures names { Known cap (hist log.now count) work.now → (node : NodeId) → (decode rec.now).node ≡ Marked node → last ≡ latest_by node.0 (hist log.now count) → result ≡ named_number (decode rec.now) (hist log.now count) }
+    ensures names { Known cap (hist log.now count) work.now → (node : NodeId) → (decode rec.now).node ≡ Some node → last ≡ latest_by node.0 (hist log.now count) → result ≡ named_number (decode rec.now) (hist log.now count) }
 {
     let named = names(log, work, count, cap, rec, last);
     if named == 0 {

@@ -17,8 +17,7 @@ use Rattle.tally.specs.declared.Refusal.{Refusal}
 use Rattle.tally.specs.declared.Refusal.TheVariants.{Nothing, Unfit, Unused, Full}
 use Rattle.tally.specs.Stored.{holds, stored, number_in, all_to}
 use Rattle.tally.specs.Counts.{place_count, tally_places, traces_at, is_used, count_at}
-use Rattle.tally.specs.Entries.{width, tally_size, refusal_number, is_entry, unused_clear, raised, has_room, in_order, entry_refusal, left_by}
-use Rattle.tally.specs.Entries.{EntersBy}
+use Rattle.tally.specs.Entries.{width, tally_size, refusal_number, is_entry, unused_clear, raised, has_room, in_order, entry_refusal, left_by, EntersBy}
 use Rattle.tally.specs.Campaigns.{zero_tally, Entry, Campaign, none, more, entered, next_refusal, sum_to, Tallied}
 use Rattle.tally.proofs.Tests.{all_at, all_of, all_same}
 use Rattle.tally.proofs.Widths.{stored_length, stored_same, number_stored, number_fits, stored_zeros}

@@ -18,8 +18,7 @@ use Rattle.rules.proofs.Checks.{check_at_lem, all_by, every_by}
 use Rattle.decision.specs.Refusals.{fits_by}
 use Rattle.judge.specs.declared.state.Judge.{Judge}
 use Rattle.tally.specs.Stored.{all_to}
-use Rattle.tally.specs.Counts.{place_count, record_of, place_of, verdict_place, judge_place, how_many, traces_at, records_taken, number_at}
-use Rattle.tally.specs.Counts.{used_places, is_used, count_at}
+use Rattle.tally.specs.Counts.{place_count, record_of, place_of, verdict_place, judge_place, how_many, traces_at, records_taken, number_at, used_places, is_used, count_at}
 use Rattle.tally.specs.Entries.{is_entry}
 use Rattle.tally.specs.Campaigns.{sum_to}
 use Rattle.tally.proofs.Tests.{all_at, all_of}

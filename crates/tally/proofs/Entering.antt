@@ -14,8 +14,7 @@ use Rattle.decision.specs.Refusals.{fits_by}
 use Rattle.judge.specs.declared.state.Judge.{Judge}
 use Rattle.tally.specs.declared.Entered.{Entered}
 use Rattle.tally.specs.Stored.{holds, stored, number_in, all_to}
-use Rattle.tally.specs.Counts.{place_count, tally_places, record_of, place_of, judge_place, how_many, traces_at, records_taken, used_places}
-use Rattle.tally.specs.Counts.{count_at}
+use Rattle.tally.specs.Counts.{place_count, tally_places, record_of, place_of, judge_place, how_many, traces_at, records_taken, used_places, count_at}
 use Rattle.tally.specs.Entries.{width, tally_size, refusal_number, is_entry, unused_clear, raised, has_room, in_order, entry_refusal, left_by, EntersBy}
 use Rattle.tally.specs.Raising.{PlacesOf, places_known, Known, raise_at, raised_to, tallied_to, room_to, room_for, refusal_by, EntersPlaces}
 use Rattle.tally.proofs.Counts.{place_within, count_at_lem}

@@ -1,6 +1,6 @@
 -- A campaign: a list of entries into a tally of zeros, what is claimed of the tally after it, and what a finished judge counts as.
 use Rattle.std.specs.Prelude.{◌≡◌, cond, List, [], ◌∷◌, ℕ, zero, suc, ◌+◌, ◌*◌, ◌≤◌, ◌<◌, replicate, eqb}
-use Rattle.rules.specs.declared.Case.{Case}
+use Rattle.rules.specs.Cases.{Case}
 use Rattle.rules.specs.declared.Evidence.{Evidence}
 use Rattle.rules.specs.History.{History}
 use Rattle.rules.specs.Reports.{FirstFault, Free}

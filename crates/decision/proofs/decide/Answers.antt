@@ -16,8 +16,7 @@ use Rattle.decision.specs.Refusals.{suits_by, push_refusal_by, concerned_bits, d
 use Rattle.decision.proofs.Bits.{bits_1, bits_2, bits_3, bits_4, bits_5, bits_8, bits_11, bits_12, bits_none}
 use Rattle.decision.proofs.Decisions.{decided_unfit, decided_form, decided_sound, wrong_kind}
 use Rattle.decision.proofs.Suiting.{suiting}
-use Rattle.decision.proofs.decide.Goals.{in_default-via-then-kind-lt1, in_default-via-else-kind-lt1+else-kind-lt11, in-4-1}
-use Rattle.decision.proofs.decide.Goals.{in_default+else-kind-lt1+then-kind-lt11}
+use Rattle.decision.proofs.decide.Goals.{in_default-via-then-kind-lt1, in_default-via-else-kind-lt1+else-kind-lt11, in-4-1, in_default+else-kind-lt1+then-kind-lt11}
 use Rattle.decision.proofs.decide.Goals as goal
 
 pub returns-then-not-suits : goal.returns-then-not-suits

@@ -3,8 +3,7 @@ use mathlib.Core.Path.{sym, ◌∙◌}
 use native.Mathlib.Omega.{arith}
 use Rattle.intake.proofs.Steps.{left, kept, stepped}
 use Rattle.rules.specs.Descriptors.{agreement}
-use Rattle.rules.proofs.Concerns.{agreement_none}
-use Rattle.rules.proofs.Concerns.{pass_clear}
+use Rattle.rules.proofs.Concerns.{agreement_none, pass_clear}
 use Rattle.history.specs.Logs.{hist}
 use Rattle.intake.proofs.step.next_agreement.Goals as goal
 

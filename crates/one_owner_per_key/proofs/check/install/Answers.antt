@@ -4,8 +4,7 @@ use native.Mathlib.Omega.{arith}
 use Rattle.record.specs.Records.{decode}
 use Rattle.history.specs.Logs.{hist}
 use borrow.Author.Tests.{eq-eqb, ne_eqb}
-use Rattle.rules.specs.declared.Case.{Case}
-use Rattle.rules.specs.Cases.{is_fault}
+use Rattle.rules.specs.Cases.{Case, is_fault}
 use Rattle.rules.specs.OneOwnerPerKey.{install_fault}
 use Rattle.rules.proofs.Owners.{install_unmarked, install_other, install_spans}
 use Rattle.rules.proofs.Spans.{first_hit, first_miss, first_end}

@@ -4,8 +4,7 @@ use mathlib.Core.Bool.{false}
 use native.Mathlib.Omega.{arith}
 use Rattle.state_words.specs.StateWords.{is_state, judge_in}
 use Rattle.state_words.proofs.States.{state_facts}
-use Rattle.petalchurn.proofs.PreviewLaws.{no_room, room, room_rows, room_ticket, front_passes}
-use Rattle.petalchurn.proofs.PreviewLaws.{preview_short, preview_unfit, preview_refused, preview_taken, preview_size}
+use Rattle.petalchurn.proofs.PreviewLaws.{no_room, room, room_rows, room_ticket, front_passes, preview_short, preview_unfit, preview_refused, preview_taken, preview_size}
 use Rattle.petalchurn.proofs.preview.petalchurn_preview.Goals as goal
 
 pub returns-then-reports-ticket : goal.returns-then-reports-ticket

@@ -1,6 +1,6 @@
 -- A node that is not below cannot lower it.
 use mathlib.Core.Path.{sym, ap, ◌∙◌}
-use Rattle.record.specs.declared.named.Node.{Node}
+use Rattle.record.specs.Named.{Node}
 use Rattle.record.specs.Records.{decode}
 use Rattle.rules.specs.RightHalf.{lacks}
 use Rattle.history.specs.Logs.{hist}

@@ -5,8 +5,7 @@ use Rattle.record.specs.Records.{decode}
 use Rattle.history.specs.Logs.{hist}
 use Rattle.history.proofs.Logs.{hist_length}
 use Rattle.splits.proofs.States.{server_is, restated_is, refused_is, pending_cell_lem}
-use Rattle.splits.proofs.Noting.{server_after, restated_after, refused_after, registered_after, registering_read, records_after, server_unmarked}
-use Rattle.splits.proofs.Noting.{restated_unmarked, refused_unmarked, pending_unmarked, named_unmarked, records_unmarked}
+use Rattle.splits.proofs.Noting.{server_after, restated_after, refused_after, registered_after, registering_read, records_after, server_unmarked, restated_unmarked, refused_unmarked, pending_unmarked, named_unmarked, records_unmarked}
 use Rattle.rules.proofs.Marks.{by_itself}
 use Rattle.splits.proofs.note.cells_of.Goals as goal
 
