@@ -4,5 +4,6 @@ pub mod Cells
 pub mod Chains
 pub mod Queries
 pub mod Walks
+pub mod Pasts
 pub mod Copies
 pub mod Mixing

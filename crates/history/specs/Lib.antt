@@ -5,3 +5,4 @@ pub mod Buckets
 pub mod Places
 pub mod Bounds
 pub mod Weighing
+pub mod Pasts

@@ -4,7 +4,10 @@
 
 pub mod bucket;
 pub mod chain;
+
 pub mod held;
 pub mod log;
+pub mod past;
 pub mod place;
 pub mod span;
+pub mod walk;

@@ -2,16 +2,17 @@
 ghost use Rattle.std.specs.Prelude.{◌≡◌, ◌+◌, ◌*◌, ◌≤◌, length};
 ghost use Rattle.history.specs.Logs.{bytes_at, Appended};
 
+use record::Record;
 use record::limits::RECORD_SIZE;
 
-// The bytes of the record at a place.
-pub fn record_at(log: &[u8], i: usize) -> &[u8]
+// The record at a place.
+#[tactic(auto, unfolding(crate::specs::Logs::bytes_at))]
+pub fn record_at(log: &[u8], i: usize) -> &Record
     requires { 368 * i + 368 ≤ length log.now }
     ensures { result.now ≡ bytes_at i log.now }
 {
     let at = RECORD_SIZE * i;
-    let end = at + RECORD_SIZE;
-    &log[at..end]
+    log[at..at + RECORD_SIZE].as_array().unwrap()
 }
 
 // Writes a record at the place after the first count.

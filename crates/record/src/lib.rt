@@ -6,3 +6,6 @@ pub mod key;
 pub mod limits;
 pub mod named;
 pub mod number;
+
+// The bytes of one record.
+pub type Record = [u8; limits::RECORD_SIZE];
