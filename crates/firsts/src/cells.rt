@@ -26,12 +26,8 @@ pub fn grant_at<'a>(past: &Past<'a>, index: u64) -> Option<Taken<'a>>
     ensures first { Indexed FirstsIndexed past.now → number_of result ≡ first_grant_at index (taken past.now) }
 {
     let bucket = bucket_by(past.cap, index);
-    for old in past.chain(FIRST_HEADS, FIRST_LINKS, bucket) {
-        if is_grant(old.record, index) {
-            return Some(old);
-        }
-    }
-    None
+    past.chain(FIRST_HEADS, FIRST_LINKS, bucket)
+        .find(|old| is_grant(old.record, index))
 }
 
 // Whether a record is a RaftApply at a range and index.
@@ -46,10 +42,6 @@ pub fn is_counted(past: &Past, range: u64, index: u64) -> bool
     ensures { Indexed FirstsIndexed past.now → result ≡ any_of (placed range index) (writes (taken past.now)) }
 {
     let bucket = bucket_by_two(past.cap, range, index);
-    for old in past.chain(FIRST_HEADS, FIRST_LINKS, bucket) {
-        if is_placed(old.record, range, index) {
-            return true;
-        }
-    }
-    false
+    past.chain(FIRST_HEADS, FIRST_LINKS, bucket)
+        .any(|old| is_placed(old.record, range, index))
 }

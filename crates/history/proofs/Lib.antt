@@ -5,5 +5,6 @@ pub mod Chains
 pub mod Queries
 pub mod Walks
 pub mod Pasts
+pub mod Finds
 pub mod Copies
 pub mod Mixing
