@@ -18,29 +18,29 @@ returns-then-not-is_holding c =
     let a = c.args in
     let x = decode a.rec.now in
     let h = hist a.log.now a.count in
-    λ ix. overlap_other x h (sym c.node-marked.ensures ∙ c.in-Marked.is)
+    λ ix. overlap_other x h (sym c.node-marked.ensures ∙ c.in-Some.is)
     (sym c.is_holding.ensures ∙ c.if-not-is_holding.true)
 
-pub returns-in-Range : goal.returns-in-Range
-returns-in-Range c =
+pub returns-in-Some : goal.returns-in-Some
+returns-in-Some c =
     let a = c.args in
     let x = decode a.rec.now in
     let h = hist a.log.now a.count in
     λ ix. c.fault_of.ensures ∙ overlap_met x h (sym
     c.node-marked.ensures
-    ∙ c.in-Marked.is)
+    ∙ c.in-Some.is)
     (sym c.is_holding.ensures
     ∙ c.if-not-is_holding.false)
     c.a-range.ensures (c.lowest_meeting-met.ensures ix)
-    (ap range_in c.in-Range.is)
+    (ap range_in c.in-Some.is)
 
-pub returns-in-Apart : goal.returns-in-Apart
-returns-in-Apart c =
+pub returns-in-None : goal.returns-in-None
+returns-in-None c =
     let a = c.args in
     let x = decode a.rec.now in
     let h = hist a.log.now a.count in
     λ ix. overlap_apart x h (sym c.node-marked.ensures
-    ∙ c.in-Marked.is)
+    ∙ c.in-Some.is)
     (sym c.is_holding.ensures
     ∙ c.if-not-is_holding.false)
-    c.a-range.ensures (c.lowest_meeting-met.ensures ix) (ap range_in c.in-Apart.is)
+    c.a-range.ensures (c.lowest_meeting-met.ensures ix) (ap range_in c.in-None.is)

@@ -8,17 +8,17 @@ use Rattle.one_owner_per_key.specs.Answers.{group_in, range_in}
 use Rattle.rules.proofs.Owners.{replaced_named, replaced_met, replaced_apart}
 use Rattle.one_owner_per_key.proofs.check.replaced_case.Goals as goal
 
-pub returns-in-Named : goal.returns-in-Named
-returns-in-Named c =
+pub returns-in-Some : goal.returns-in-Some
+returns-in-Some c =
     let a = c.args in
     let x = decode a.rec.now in
     let h = hist a.log.now a.count in
     let s = span_of a.k x in
     λ ix. replaced_named a.tenant x h a.node.0 s
-    (c.group_of-named.ensures ∙ ap (group_of a.tenant) c.start_of.ensures) (ap group_in c.in-Named.is)
+    (c.group_of-named.ensures ∙ ap (group_of a.tenant) c.start_of.ensures) (ap group_in c.in-Some.is)
 
-pub returns-in-Range : goal.returns-in-Range
-returns-in-Range c =
+pub returns-in-Some : goal.returns-in-Some
+returns-in-Some c =
     let a = c.args in
     let x = decode a.rec.now in
     let h = hist a.log.now a.count in
@@ -27,10 +27,10 @@ returns-in-Range c =
     (c.group_of-named.ensures
     ∙ ap (group_of a.tenant) c.start_of.ensures)
     (ap group_in c.in_default.is) (c.lowest_meeting-met.ensures ix)
-    (ap range_in c.in-Range.is)
+    (ap range_in c.in-Some.is)
 
-pub returns-in-Apart : goal.returns-in-Apart
-returns-in-Apart c =
+pub returns-in-None : goal.returns-in-None
+returns-in-None c =
     let a = c.args in
     let x = decode a.rec.now in
     let h = hist a.log.now a.count in
@@ -38,4 +38,4 @@ returns-in-Apart c =
     λ ix. replaced_apart a.tenant x h a.node.0 s
     (c.group_of-named.ensures
     ∙ ap (group_of a.tenant) c.start_of.ensures)
-    (ap group_in c.in_default.is) (c.lowest_meeting-met.ensures ix) (ap range_in c.in-Apart.is)
+    (ap group_in c.in_default.is) (c.lowest_meeting-met.ensures ix) (ap range_in c.in-None.is)

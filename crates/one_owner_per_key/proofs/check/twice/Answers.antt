@@ -19,28 +19,28 @@ returns-then-kind-ne1 c =
     let a = c.args in
     let x = decode a.rec.now in
     let h = hist a.log.now a.count in
-    λ ix. twice_other x h (sym c.node-marked.ensures ∙ c.in-Marked.is)
+    λ ix. twice_other x h (sym c.node-marked.ensures ∙ c.in-Some.is)
     (ne_eqb x.kind 1 (λ e. c.if-kind-ne1.true (c.kind.ensures ∙ e)))
 
-pub returns-in-At : goal.returns-in-At
-returns-in-At c =
+pub returns-in-Some : goal.returns-in-Some
+returns-in-Some c =
     let a = c.args in
     let x = decode a.rec.now in
     let h = hist a.log.now a.count in
     λ ix. c.fault_of.ensures ∙ twice_held x h (sym
     c.node-marked.ensures
-    ∙ c.in-Marked.is)
+    ∙ c.in-Some.is)
     (eq-eqb x.kind 1 (sym c.kind.ensures
     ∙ c.if-kind-ne1.false))
     c.a-range.ensures c.b.ensures
-    (found_held _ _ h (c.held_by-held.ensures ix) c.in-At.is)
+    (found_held _ _ h (c.held_by-held.ensures ix) c.in-Some.is)
 
-pub returns-in-Nothing : goal.returns-in-Nothing
-returns-in-Nothing c =
+pub returns-in-None : goal.returns-in-None
+returns-in-None c =
     let a = c.args in
     let x = decode a.rec.now in
     let h = hist a.log.now a.count in
     λ ix. twice_free x h (sym c.node-marked.ensures
-    ∙ c.in-Marked.is)
+    ∙ c.in-Some.is)
     (eq-eqb x.kind 1 (sym c.kind.ensures ∙ c.if-kind-ne1.false))
-    c.a-range.ensures (lost_held _ _ h (c.held_by-held.ensures ix) c.in-Nothing.is)
+    c.a-range.ensures (lost_held _ _ h (c.held_by-held.ensures ix) c.in-None.is)

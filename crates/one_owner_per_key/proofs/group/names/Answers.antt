@@ -14,4 +14,4 @@ returns-in_default c =
 pub returns : goal.returns
 returns c =
     sym (ap (holds (λ (g : ℕ). eqb g c.args.range))
-    (sym c.group_of-g.ensures ∙ ap group_in c.in-Named.is))
+    (sym c.group_of-g.ensures ∙ ap group_in c.in-Some.is))

@@ -26,12 +26,12 @@ returns-then-not-is_voter c =
     (sym (c.is_voter.ensures ∙ ap (λ (s : ServerId). any_of (λ v. eqb v s.0) (decode a.found.now).voters)
     (c.server_of.ensures ix)) ∙ c.if-not-is_voter.true)
 
-pub returns-in-At : goal.returns-in-At
-returns-in-At c =
+pub returns-in-Some : goal.returns-in-Some
+returns-in-Some c =
     let a = c.args in
     λ ix. lowest_held (any_of (λ v. eqb v (server_of a.node.0 (hist a.log.now a.count)).0) (decode a.found.now).voters)
     (holds (λ b. ltb b a.right) (found_in a.lowest))
-    (found_held a.node.0 a.right (hist a.log.now a.count) (c.held_by-held.ensures ix.0) c.in-At.is)
+    (found_held a.node.0 a.right (hist a.log.now a.count) (c.held_by-held.ensures ix.0) c.in-Some.is)
 
 pub returns-in_default : goal.returns-in_default
 returns-in_default c =

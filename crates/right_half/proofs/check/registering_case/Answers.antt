@@ -22,8 +22,8 @@ right_of-right-requires c = (c.requires.0.log_holds, c.requires.1)
 pub lowest_lacking-lowest-requires : goal.lowest_lacking-lowest-requires
 lowest_lacking-lowest-requires c = c.requires
 
-pub returns-in-At : goal.returns-in-At
-returns-in-At c =
+pub returns-in-Some : goal.returns-in-Some
+returns-in-Some c =
     let a = c.args in
     let x = decode a.rec.now in
     λ ix e.
@@ -32,15 +32,15 @@ returns-in-At c =
     c.right_of-right.ensures
     (right_range a.log.now a.count x e c.if-named-eq0.false) in
     found_fault a.log.now a.count x e c.if-named-eq0.false
-    c.in-At.node c.parent_of-parent.ensures
+    c.in-Some.node c.parent_of-parent.ensures
     c.b-index.ensures r
-    (ap found_in (sym c.in-At.is)
+    (ap found_in (sym c.in-Some.is)
     ∙ c.lowest_lacking-lowest.ensures ix (split_with a.log.now x a.named) s
     c.parent_of-parent.ensures c.b-index.ensures r)
     c.fault_of.ensures
 
-pub returns-in-Nothing : goal.returns-in-Nothing
-returns-in-Nothing c =
+pub returns-in-None : goal.returns-in-None
+returns-in-None c =
     let a = c.args in
     let x = decode a.rec.now in
     λ ix e.
@@ -48,5 +48,5 @@ returns-in-Nothing c =
     let r =
     c.right_of-right.ensures (right_range a.log.now a.count x e c.if-named-eq0.false) in
     none_clear a.log.now a.count x e c.if-named-eq0.false
-    (ap found_in (sym c.in-Nothing.is) ∙ c.lowest_lacking-lowest.ensures ix (split_with a.log.now x a.named) s
+    (ap found_in (sym c.in-None.is) ∙ c.lowest_lacking-lowest.ensures ix (split_with a.log.now x a.named) s
     c.parent_of-parent.ensures c.b-index.ensures r)

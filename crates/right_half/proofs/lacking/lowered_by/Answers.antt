@@ -21,10 +21,10 @@ lacks_at-requires c =
 pub returns-then-lacks_at : goal.returns-then-lacks_at
 returns-then-lacks_at c =
     let a = c.args in
-    let m = c.in-Marked.node in
+    let m = c.in-Some.node in
     let e =
     sym c.node-marked.ensures
-    ∙ c.in-Marked.is in
+    ∙ c.in-Some.is in
     λ ix s r ep ei er.
     let P = lacks s (decode a.rec.now) (hist a.log.now a.count) in
     lowered_new m.0 (found_in a.best) (sym c.is_below.ensures ∙ c.if-is_below.true)
@@ -33,10 +33,10 @@ returns-then-lacks_at c =
 pub returns-else-lacks_at : goal.returns-else-lacks_at
 returns-else-lacks_at c =
     let a = c.args in
-    let m = c.in-Marked.node in
+    let m = c.in-Some.node in
     let e =
     sym c.node-marked.ensures
-    ∙ c.in-Marked.is in
+    ∙ c.in-Some.is in
     λ ix s r ep ei er.
     let P = lacks s (decode a.rec.now) (hist a.log.now a.count) in
     lowered_not m.0 (found_in a.best) (sym (c.lacks_at.ensures ix s r ep ei er) ∙ c.if-lacks_at.false)
@@ -45,8 +45,8 @@ returns-else-lacks_at c =
 pub returns-else-is_below : goal.returns-else-is_below
 returns-else-is_below c =
     let a = c.args in
-    let m = c.in-Marked.node in
-    let e = sym c.node-marked.ensures ∙ c.in-Marked.is in
+    let m = c.in-Some.node in
+    let e = sym c.node-marked.ensures ∙ c.in-Some.is in
     λ ix s r ep ei er.
     let P = lacks s (decode a.rec.now) (hist a.log.now a.count) in
     lowered_above (P m.0) m.0 (found_in a.best) (sym c.is_below.ensures ∙ c.if-is_below.false)

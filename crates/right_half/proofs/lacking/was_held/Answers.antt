@@ -12,12 +12,12 @@ returns-then-restated-refused c = let a = c.args in λ ix e f g. with_dropped a.
 pub held_by-held-requires : goal.held_by-held-requires
 held_by-held-requires c = (c.requires.0, omega (arith, c.requires.1))
 
-pub returns-in-At : goal.returns-in-At
-returns-in-At c =
+pub returns-in-Some : goal.returns-in-Some
+returns-in-Some c =
     let a =
     c.args in λ ix e f g. with_held a.node.0 a.range a.log.now a.count e f g
     c.if-restated-refused.false (found_held a.node.0 a.range (hist a.log.now (a.restated - 1))
-    (c.held_by-held.ensures ix.0) c.in-At.is)
+    (c.held_by-held.ensures ix.0) c.in-Some.is)
 
 pub returns-in_default : goal.returns-in_default
 returns-in_default c =
