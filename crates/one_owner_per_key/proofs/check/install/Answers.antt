@@ -37,8 +37,8 @@ loop-k-init c =
           ∙ c.in-Some.is) a.tenant (eq-eqb x.kind 8 (sym c.kind.ensures ∙ c.if-kind-ne8.false)),
     )
 
-pub returns-then-is_fault : goal.returns-then-is_fault
-returns-then-is_fault c =
+pub returns-then-is_some : goal.returns-then-is_some
+returns-then-is_some c =
     let a = c.args in
     let x = decode a.rec.now in
     let h = hist a.log.now a.count in
@@ -47,7 +47,7 @@ returns-then-is_fault c =
     λ ix.
     let e = c.replaced_case-c.ensures ix in
     e ∙ sym (l.invariant.3 ix ∙ first_hit x l.k f (omega (arith, l.invariant.1))
-    (sym (ap (λ (z : Case). is_fault z) e) ∙ sym c.is_fault.ensures ∙ c.if-is_fault.true))
+    (sym (ap (λ (z : Case). is_fault z) e) ∙ sym c.is_some.ensures ∙ c.if-is_some.true))
 
 pub loop-k-smaller : goal.loop-k-smaller
 loop-k-smaller c = omega arith
@@ -65,7 +65,7 @@ loop-k-preserved c =
       λ ix.
           let e = c.replaced_case-c.ensures ix in
           l.invariant.3 ix ∙ first_miss x l.k f (omega (arith, l.invariant.1))
-          (sym (ap (λ (z : Case). is_fault z) e) ∙ sym c.is_fault.ensures ∙ c.if-is_fault.false),
+          (sym (ap (λ (z : Case). is_fault z) e) ∙ sym c.is_some.ensures ∙ c.if-is_some.false),
     )
 
 pub returns : goal.returns
