@@ -1,8 +1,0 @@
--- By whether there is one.
-use Rattle.right_half.proofs.check.is_above.Goals as goal
-
-pub returns-in-Some : goal.returns-in-Some
-returns-in-Some c = rw c.in-Some.is
-
-pub returns-in-None : goal.returns-in-None
-returns-in-None c = rw c.in-None.is
