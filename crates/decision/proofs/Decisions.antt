@@ -1,4 +1,5 @@
 -- What is decided of a record, refusal by refusal, and what a record that is not refused has. Assumes nothing.
+use Rattle.std.specs.Prelude.{Some, None}
 use mathlib.Core.Path.{◌≡◌, refl, sym, ap, ◌∙◌}
 use mathlib.Core.Bool.{Bool, true, false, cond}
 use mathlib.Core.List.{List}
@@ -9,11 +10,9 @@ use native.Mathlib.Decide.{ℕ_discrete}
 use lib.ListN.{length}
 use lib.Dec.{eqb}
 use borrow.Author.Tests.{eqb-true, eqb-false, ne_eqb}
-use Rattle.form.specs.declared.kind.Shaped.{Shaped}
-use Rattle.form.specs.declared.kind.Shaped.TheVariants.{Known, Unknown}
 use Rattle.record.specs.Numbers.{byte_at}
 use Rattle.record.specs.Records.{decode}
-use Rattle.form.specs.KindTable.{shape_of}
+use Rattle.form.specs.KindTable.{shape_of, Shaped}
 use Rattle.form.specs.Form.{values_fit, unused_clear, shaped_refusal, refusal_of}
 use Rattle.form.proofs.Shapes.{past}
 use Rattle.form.proofs.Sound.{wrong_size, by_shape}
@@ -81,12 +80,12 @@ module _ (form : ℕ) (lost full : Bool) (concerned : ℕ) where
   sound_clear e f g = sym (rw (e, f, g))
 
 -- a kind that is none of document 01's
-unknown_kind : (kind : ℕ) → (1 ≤ kind → kind ≤ 12 → ⊥) → shape_of kind ≡ Unknown
+unknown_kind : (kind : ℕ) → (1 ≤ kind → kind ≤ 12 → ⊥) → shape_of kind ≡ None
 unknown_kind zero n = refl
 unknown_kind (suc k) n = past (suc k) (let m = n (omega arith) in omega arith)
 
 pub wrong_kind : (bytes : List ℕ) → length bytes ≡ 368 → (1 ≤ byte_at 0 bytes → byte_at 0 bytes ≤ 12 → ⊥) → refusal_of bytes ≡ 2
-wrong_kind bytes l n = by_shape bytes l Unknown (unknown_kind (byte_at 0 bytes) n)
+wrong_kind bytes l n = by_shape bytes l None (unknown_kind (byte_at 0 bytes) n)
 
 -- ---- what a decision says
 
@@ -161,8 +160,8 @@ values_few true false = omega arith
 values_few false b = omega arith
 
 shaped_few : (k : Shaped) (bytes : List ℕ) → shaped_refusal k bytes ≤ 4
-shaped_few Unknown bytes = omega arith
-shaped_few (Known k) bytes = values_few (values_fit k bytes) (unused_clear k bytes)
+shaped_few None bytes = omega arith
+shaped_few (Some k) bytes = values_few (values_fit k bytes) (unused_clear k bytes)
 
 size_few : (b : Bool) (x : ℕ) → x ≤ 4 → cond b x 1 ≤ 4
 size_few true x l = l

@@ -54,7 +54,7 @@ module _ (v s : TraceRecord) (index : ℕ) (vs : List Entry) (d : held_eqb (held
   unfolding held_by
   differs_ahead l ea ed q = q ∙ rw (d, lt-ltb v.d s.d l, ea, ed)
 
-  pub differs_behind : {ra : ℕ} {r : Case} → s.d ≤ v.d → ra ≡ s.a → r ≡ fault 3 (ra ∷ index ∷ 0 ∷ []) → r ≡ differs_case s.a index (held_by v) (held_by s) vs
+  pub differs_behind : {ra : ℕ} {r : Case} → s.d ≤ v.d → ra ≡ s.a → r ≡ fault 3 (ra ∷ index ∷ []) → r ≡ differs_case s.a index (held_by v) (held_by s) vs
   unfolding held_by
   differs_behind l ea q = q ∙ rw (d, le-ltb v.d s.d l, ea)
 
@@ -157,6 +157,6 @@ module _ (log : List ℕ) (n : ℕ) (x : TraceRecord) (h : History) (index : ℕ
     pub put_same : held_eqb (held_by (decode bytes)) (held_by x) ≡ true → None ≡ agreement (x ∷ h)
     put_same t = sym (against ∙ rw t)
 
-    pub put_differs : {ra : ℕ} {r : Case} → held_eqb (held_by (decode bytes)) (held_by x) ≡ false → ra ≡ x.a → r ≡ fault 1 (ra ∷ index ∷ 0 ∷ [])
+    pub put_differs : {ra : ℕ} {r : Case} → held_eqb (held_by (decode bytes)) (held_by x) ≡ false → ra ≡ x.a → r ≡ fault 1 (ra ∷ index ∷ [])
         → r ≡ agreement (x ∷ h)
     put_differs t a q = q ∙ sym (against ∙ rw (t, a))

@@ -23,7 +23,7 @@ use Rattle.history.proofs.Cells.{cell_new, Same, put_apart, column_agrees, colum
 use Rattle.history.proofs.Chains.{clamped, chained_agrees, entered, not_entered, chained_clear}
 use Rattle.history.specs.Buckets.{bucket_by, bucket_by_two}
 use Rattle.descriptors.specs.declared.note.Told.{Told}
-use Rattle.descriptors.specs.Columns.{new_value, first_value, same_generation, applied_at, applied_bucket, standing_bucket, stated_bucket, generation_bucket, not_below, is_rising, counts_of, counts_after, DescriptorsIndexed, put, is_marked, marked_bucket, EnteredIf, AllEntered, Telling, counts_next, own_columns, DescriptorsNoted}
+use Rattle.descriptors.specs.Columns.{new_value, first_value, same_generation, applied_at, applied_bucket, standing_bucket, stated_bucket, generation_bucket, not_below, is_rising, counts_of, counts_after, DescriptorsIndexed, put, marked_bucket, EnteredIf, AllEntered, Telling, counts_next, own_columns, DescriptorsNoted}
 use Rattle.descriptors.specs.Answers.{greatest_up_to}
 use Rattle.descriptors.proofs.Rising.{counts_by, counts_bound, top_reaches}
 use Rattle.descriptors.proofs.Roles.{new_puts, first_new}
@@ -155,11 +155,11 @@ module _ (cap : ℕ) (x : TraceRecord) (h : History) where
       let d : v.held.generation ≡ x.d = put_generation x h p in
       rw (a, d))
 
-  applied_go : (n : Node) → applied_at cap x n ≡ when (is_marked n && (is_kind 1 x || is_kind 3 x || is_kind 4 x)) (marked_bucket cap x n)
+  applied_go : (n : Node) → applied_at cap x n ≡ when (is_some n && (is_kind 1 x || is_kind 3 x || is_kind 4 x)) (marked_bucket cap x n)
   applied_go None = refl
   applied_go (Some n) = refl
 
-  applied_when : applied_bucket cap x h ≡ when (is_marked x.node && (is_kind 1 x || is_kind 3 x || is_kind 4 x)) (marked_bucket cap x x.node)
+  applied_when : applied_bucket cap x h ≡ when (is_some x.node && (is_kind 1 x || is_kind 3 x || is_kind 4 x)) (marked_bucket cap x x.node)
   unfolding applied_bucket
   applied_when = applied_go x.node
 
@@ -290,7 +290,7 @@ module _ (work work' w4 : List ℕ) (count cap : ℕ) (x : TraceRecord) (t : Tol
       → Chained f heads links cap h work'
   put_chain heads links u v c = chained_agrees (put_apart p (λ k w z. omega arith)) (put_apart p (λ k w z. omega arith)) c
 
-  module _ (ne : nodes ≡ marked_bucket cap x x.node) (ae : applied ≡ is_marked x.node && (is_kind 1 x || is_kind 3 x || is_kind 4 x))
+  module _ (ne : nodes ≡ marked_bucket cap x x.node) (ae : applied ≡ is_some x.node && (is_kind 1 x || is_kind 3 x || is_kind 4 x))
       (re : ranges ≡ bucket_by cap x.a) (ge : generations ≡ bucket_by_two cap x.a x.d)
       (ce : after ≡ counts_next old t.puts t.states + cond t.rises 16384 0)
       (h : History) (n : length h ≡ count) (oe : old ≡ counts_of h) (k : Telling x h t) (d : DescriptorsIndexed cap h work) where
@@ -354,7 +354,7 @@ module _ (work work' w4 : List ℕ) (count cap : ℕ) (x : TraceRecord) (t : Tol
     all : DescriptorsIndexed cap (x ∷ h) work'
     all = record { applied = entered_by_node; standing = entered_by_range; stated = entered_by_statement; generation = entered_by_generation; counts = by_counts }
 
-  pub noted : nodes ≡ marked_bucket cap x x.node → applied ≡ is_marked x.node && (is_kind 1 x || is_kind 3 x || is_kind 4 x)
+  pub noted : nodes ≡ marked_bucket cap x x.node → applied ≡ is_some x.node && (is_kind 1 x || is_kind 3 x || is_kind 4 x)
       → ranges ≡ bucket_by cap x.a → generations ≡ bucket_by_two cap x.a x.d → after ≡ counts_next old t.puts t.states + cond t.rises 16384 0
       → ((h : History) → length h ≡ count → DescriptorsIndexed cap h work → old ≡ counts_of h) → DescriptorsNoted work work' count cap x t
   noted ne ae re ge ce oe = record { len = size; others = word; indexed = λ h n k d. all ne ae re ge ce h n (oe h n d) k d }

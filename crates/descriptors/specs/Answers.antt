@@ -7,15 +7,8 @@ use Rattle.rules.specs.History.{holds, is_some, greatest_of, lowest_of}
 use Rattle.rules.specs.Descriptors.{Entry, Held, held_by, held_eqb, at_in, puts, states, neither}
 use Rattle.rules.specs.Descriptors as rules
 use Rattle.descriptors.specs.Columns.{stated_index}
-use Rattle.descriptors.specs.declared.role.Applied.{Applied}
-use Rattle.descriptors.specs.declared.role.Applied.TheVariants.{Known, Unknown}
 use Rattle.descriptors.specs.declared.role.Role.{Role}
 use Rattle.descriptors.specs.declared.role.Role.TheVariants.{Puts, States, Neither}
-
--- the applied index, where one is known
-abbrev pub applied_is : Applied → Option ℕ
-applied_is (Known i) = Some i
-applied_is Unknown = None
 
 -- a record's role
 abbrev pub role_is : Role → rules.Role

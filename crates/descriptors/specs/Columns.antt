@@ -93,11 +93,7 @@ statement log (suc k) = Some (stated_entry log k)
 
 -- ---- what a new record changes
 
--- a record has a node, and the bucket of its node and range
-abbrev pub is_marked : Node → Bool
-is_marked None = false
-is_marked (Some n) = true
-
+-- the bucket of a record's node and range, where it has a node
 abbrev pub marked_bucket : ℕ → TraceRecord → Node → ℕ
 marked_bucket cap x None = 0
 marked_bucket cap x (Some n) = bucket_by_two cap n.0 x.a

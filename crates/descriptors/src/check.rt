@@ -2,7 +2,6 @@
 ghost use Rattle.std.specs.Prelude.{◌≡◌, true, false, cond, [], ◌∷◌, ◌+◌, ◌*◌, ◌-◌, ◌≤◌, ◌<◌, leb, ltb, length, None};
 ghost use Rattle.record.specs.Records.{decode};
 ghost use Rattle.rules.specs.History.{holds, is_some, earliest_of, any_of};
-ghost use Rattle.rules.specs.Cases.{fault};
 ghost use Rattle.rules.specs.Descriptors.{role_of, puts, held_by, standing, stated, at_in, statement_fault, entry_at, same_place, agreement};
 ghost use Rattle.history.specs.Logs.{hist};
 ghost use Rattle.history.specs.Bounds.{Bounds};
@@ -17,23 +16,7 @@ use history::bucket::bucket_by;
 use history::held::same_held;
 use history::log::record_at;
 use record::field::{a, b, c, d, kind};
-use rules::{Fault, Evidence};
-
-// A fault of a kind with two numbers or three.
-fn fault(kind: u8, x: u64, y: u64, z: u64) -> Option<Fault>
-    ensures { result ≡ fault kind (x ∷ y ∷ z ∷ []) }
-{
-    Case::Fault(
-        kind,
-        Evidence {
-            e0: x,
-            e1: y,
-            e2: z,
-            e3: 0,
-            e4: 0,
-        },
-    )
-}
+use rules::Fault;
 
 // The case of a statement with a larger generation than the value in force: that the range took it only above.
 fn ahead_case(
@@ -52,7 +35,7 @@ fn ahead_case(
     if n == 0 {
         return None;
     }
-    fault(2, range, index, index_of(log, n))
+    Some(Fault::new(2, &[range, index, index_of(log, n)]))
 }
 
 // The case of a statement, given the record of the value that it is judged by.
@@ -74,7 +57,7 @@ fn differing_case(
     if d(value) < d(stated) {
         return ahead_case(log, work, count, cap, a(stated), index, d(stated));
     }
-    fault(3, a(stated), index, 0)
+    Some(Fault::new(3, &[a(stated), index]))
 }
 
 // The case of a new statement at an index.
@@ -283,7 +266,7 @@ fn new_case(
 {
     let at = stated_index(s);
     if at < index {
-        return fault(2, a(s), at, index);
+        return Some(Fault::new(2, &[a(s), at, index]));
     }
     differing_case(log, work, count, cap, rec, s, at)
 }
@@ -325,7 +308,7 @@ fn put_case(log: &[u8], work: &[u64], count: usize, cap: usize, rec: &[u8], inde
     if same_held(record_at(log, n - 1), rec) {
         return None;
     }
-    fault(1, a(rec), index, 0)
+    Some(Fault::new(1, &[a(rec), index]))
 }
 
 // The case of a new record, where there was none before it.

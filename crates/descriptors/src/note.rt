@@ -2,11 +2,11 @@
 // counts after it.
 ghost use Rattle.std.specs.Prelude.{◌≡◌, true, false, cond, ◌&&◌, ◌||◌, ◌∷◌, ℕ, ◌+◌, ◌*◌, ◌/◌, ◌≤◌, ◌<◌, length, get_or};
 ghost use Rattle.record.specs.Records.{decode};
-ghost use Rattle.rules.specs.History.{is_kind};
+ghost use Rattle.rules.specs.History.{is_kind, is_some};
 ghost use Rattle.rules.specs.Descriptors.{role_of, puts};
 ghost use Rattle.history.specs.Logs.{hist};
 ghost use Rattle.history.specs.Bounds.{Bounds};
-ghost use Rattle.descriptors.specs.Columns.{DescriptorsIndexed, is_marked, marked_bucket, EnteredIf, AllEntered, Telling, counts_next, own_columns, DescriptorsNoted};
+ghost use Rattle.descriptors.specs.Columns.{DescriptorsIndexed, marked_bucket, EnteredIf, AllEntered, Telling, counts_next, own_columns, DescriptorsNoted};
 
 use crate::cells::counts;
 use crate::role::{Role, applies, role_of};
@@ -51,20 +51,11 @@ fn applied_bucket(cap: usize, rec: &[u8]) -> usize
     bucket_by_two(cap, n.0 as u64, a(rec))
 }
 
-fn is_marked(n: Option<NodeId>) -> bool
-    ensures { result ≡ is_marked n }
-{
-    match n {
-        Some(_) => true,
-        None => false,
-    }
-}
-
 fn tells_applied(rec: &[u8]) -> bool
     requires { length rec.now ≡ 368 }
-    ensures { result ≡ is_marked (decode rec.now).node && (is_kind 1 (decode rec.now) || is_kind 3 (decode rec.now) || is_kind 4 (decode rec.now)) }
+    ensures { result ≡ is_some (decode rec.now).node && (is_kind 1 (decode rec.now) || is_kind 3 (decode rec.now) || is_kind 4 (decode rec.now)) }
 {
-    is_marked(node(rec)) & applies(kind(rec))
+    node(rec).is_some() & applies(kind(rec))
 }
 
 // A put at an index: whether it stands, is the first of its generation, and is above the greatest of its range.

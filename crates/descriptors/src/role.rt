@@ -6,19 +6,13 @@ ghost use Rattle.rules.specs.Descriptors.{applied, reached, created_role, role_o
 ghost use Rattle.history.specs.Logs.{hist};
 ghost use Rattle.history.specs.Bounds.{Bounds};
 ghost use Rattle.descriptors.specs.Columns.{DescriptorsIndexed};
-ghost use Rattle.descriptors.specs.Answers.{applied_is, role_is};
+ghost use Rattle.descriptors.specs.Answers.{role_is};
 
 use crate::cells::{applied_below, applied_top};
 use history::bucket::bucket_by_two;
 use history::log::record_at;
 use record::field::{a, b, c, cause, code, kind, node};
-use record::named::RangeCause;
-
-#[derive(Clone, Copy)]
-pub enum Applied {
-    Known(u64),
-    Unknown,
-}
+use record::named::{NodeId, RangeCause};
 
 #[derive(Clone, Copy)]
 pub enum Role {
@@ -30,10 +24,7 @@ pub enum Role {
 fn is_by(n: Option<NodeId>, id: u32) -> bool
     ensures { result ≡ by_node id n }
 {
-    match n {
-        Some(m) => m.0 == id,
-        None => false,
-    }
+    n.is_some_and(|marked| marked.0 == id)
 }
 
 pub fn applies(k: u8) -> bool
@@ -58,28 +49,26 @@ pub fn applied_of(
     cap: usize,
     id: u32,
     range: u64,
-) -> Applied
+) -> Option<u64>
     requires { Bounds log.now work.now count cap }
-    ensures { DescriptorsIndexed cap (hist log.now count) work.now → applied_is result ≡ applied id range (hist log.now count) }
+    ensures { DescriptorsIndexed cap (hist log.now count) work.now → result ≡ applied id range (hist log.now count) }
 {
     let mut i = applied_top(work, cap, bucket_by_two(cap, id as u64, range), count);
     while 0 < i {
         i -= 1;
         if is_applied(record_at(log, i), id, range) {
-            return Applied::Known(b(record_at(log, i)));
+            return Some(b(record_at(log, i)));
         }
         i = applied_below(work, cap, i);
     }
-    Applied::Unknown
+    None
 }
 
-fn at_least(known: Applied, index: u64) -> bool
-    ensures { result ≡ holds (λ x. leb index x) (applied_is known) }
+// Whether an applied index is known, and at least another.
+fn at_least(applied: Option<u64>, index: u64) -> bool
+    ensures { result ≡ holds (λ x. leb index x) applied }
 {
-    match known {
-        Applied::Known(x) => index <= x,
-        Applied::Unknown => false,
-    }
+    applied.is_some_and(|known| index <= known)
 }
 
 // Whether a record is marked and a known applied index is at least its own.

@@ -1,4 +1,5 @@
 -- What a record that draws no refusal has, by its kind.
+use Rattle.std.specs.Prelude.{Some, None}
 use mathlib.Core.Path.{◌≡◌, refl, sym, subst, ◌∙◌}
 use mathlib.Core.Bool.{Bool, true, false, cond, ◌&&◌}
 use mathlib.Core.List.{List}
@@ -9,11 +10,9 @@ use lib.Dec.{leb, eqb}
 use borrow.Author.Tests.{leb-true, eqb-true, eqb-false, eq-eqb, ne_eqb}
 use Rattle.form.specs.declared.kind.Values.{Values}
 use Rattle.form.specs.declared.kind.Shape.{Shape}
-use Rattle.form.specs.declared.kind.Shaped.{Shaped}
-use Rattle.form.specs.declared.kind.Shaped.TheVariants.{Known, Unknown}
 use Rattle.record.specs.Limits.{record_size, voter_limit, span_limit}
 use Rattle.record.specs.Numbers.{byte_at}
-use Rattle.form.specs.KindTable.{shape_of}
+use Rattle.form.specs.KindTable.{shape_of, Shaped}
 use Rattle.form.specs.Form.{every, key_places, length_fits, within, counts_fit, values_fit, unused_clear, shaped_refusal, refusal_of}
 use Rattle.form.proofs.Shapes.{past, roomy_kind, has_spans, spanless_kind}
 use Rattle.record.proofs.Booleans.{and_left, and_right}
@@ -67,7 +66,7 @@ pub record Counted (s : List ℕ) : Type 0 where
   pub voters : byte_at 48 s ≤ voter_limit
   pub spans : byte_at 49 s ≤ span_limit
 
-pub counted : (s : List ℕ) (k : Shape) → shape_of (byte_at 0 s) ≡ Known k → values_fit k s ≡ true → Counted s
+pub counted : (s : List ℕ) (k : Shape) → shape_of (byte_at 0 s) ≡ Some k → values_fit k s ≡ true → Counted s
 unfolding values_fit
 counted s k e h =
     let r = roomy_kind (byte_at 0 s) k e in
@@ -78,19 +77,19 @@ counted s k e h =
 pub record Passes (s : List ℕ) : Type 0 where
   pub size : length s ≡ record_size
   pub shape : Shape
-  pub known : shape_of (byte_at 0 s) ≡ Known shape
+  pub known : shape_of (byte_at 0 s) ≡ Some shape
   pub values : values_fit shape s ≡ true
   pub unused : unused_clear shape s ≡ true
 
-passes_known : (s : List ℕ) → length s ≡ record_size → (k : Shape) → shape_of (byte_at 0 s) ≡ Known k → (v u : Bool)
+passes_known : (s : List ℕ) → length s ≡ record_size → (k : Shape) → shape_of (byte_at 0 s) ≡ Some k → (v u : Bool)
     → values_fit k s ≡ v → unused_clear k s ≡ u → ◌≡◌ {A = ℕ} (cond v (cond u 0 4) 3) 0 → Passes s
 passes_known s l k e true true ev eu h = record { size = l; shape = k; known = e; values = ev; unused = eu }
 passes_known s l k e true false ev eu h = absurd (omega arith)
 passes_known s l k e false u ev eu h = absurd (omega arith)
 
 passes_shaped : (s : List ℕ) → length s ≡ record_size → (x : Shaped) → shape_of (byte_at 0 s) ≡ x → shaped_refusal x s ≡ 0 → Passes s
-passes_shaped s l Unknown e h = absurd (omega arith)
-passes_shaped s l (Known k) e h = passes_known s l k e _ _ refl refl h
+passes_shaped s l None e h = absurd (omega arith)
+passes_shaped s l (Some k) e h = passes_known s l k e _ _ refl refl h
 
 passes_sized : (s : List ℕ) → refusal_of s ≡ 0 → (b : Bool) → eqb (length s) record_size ≡ b → Passes s
 passes_sized s h true e = let l = eqb-true _ _ e in passes_shaped s l _ refl (sym (by_shape s l _ refl) ∙ h)
@@ -101,8 +100,8 @@ passes s h = passes_sized s h _ refl
 
 -- the counts by the kind byte
 abbrev CountsOf : Shaped → List ℕ → Type 0
-CountsOf Unknown s = ⊥
-CountsOf (Known k) s = Counts k s
+CountsOf None s = ⊥
+CountsOf (Some k) s = Counts k s
 
 -- what a record that draws no refusal has
 pub record Sound (s : List ℕ) : Type 0 where

@@ -1,4 +1,5 @@
 -- The voters as document 02's change 2 has them: at most five are read, a higher count draws 3, the last two places are under 4.
+use Rattle.std.specs.Prelude.{Some}
 use mathlib.Core.Path.{◌≡◌, refl, sym, ap, ◌∙◌}
 use mathlib.Core.Bool.{Bool, true, false, ◌&&◌, ◌||◌}
 use mathlib.Core.List.{List, [], ◌∷◌, ◌++◌}
@@ -7,7 +8,6 @@ use native.Mathlib.Omega.{arith}
 use lib.ListN.{length}
 use lib.Dec.{eqb}
 use Rattle.form.specs.declared.kind.Shape.{Shape}
-use Rattle.form.specs.declared.kind.Shaped.TheVariants.{Known}
 use Rattle.record.specs.Limits.{record_size}
 use Rattle.record.specs.Numbers.{part, byte_at}
 use Rattle.form.specs.KindTable.{shape_of}
@@ -47,10 +47,10 @@ cut a b e s l m =
 zeros_later : (a b e : ℕ) (s : List ℕ) → a ≤ b → b ≤ e → zeros a e s ≡ true → zeros b e s ≡ true
 zeros_later a b e s l m h = all_zero_later (part a b s) (part b e s) (ap all_zero (sym (cut a b e s l m)) ∙ h)
 
-module _ (s : List ℕ) (size : length s ≡ record_size) (k : Shape) (known : shape_of (byte_at 0 s) ≡ Known k) where
+module _ (s : List ℕ) (size : length s ≡ record_size) (k : Shape) (known : shape_of (byte_at 0 s) ≡ Some k) where
   six_by : 6 ≤ byte_at 48 s → (b : Bool) → values_fit k s ≡ b → refusal_of s ≡ 3
   six_by h true e = absurd (omega (arith, (counted s k known e).voters))
-  six_by h false e = by_shape s size (Known k) known ∙ rw e
+  six_by h false e = by_shape s size (Some k) known ∙ rw e
 
   -- "Six or seven draw refusal 3", as every higher count does, whatever the rest of the record holds
   pub six_draw_3 : 6 ≤ byte_at 48 s → refusal_of s ≡ 3
@@ -67,7 +67,7 @@ module _ (s : List ℕ) (size : length s ≡ record_size) (k : Shape) (known : s
 
   filled_by : values_fit k s ≡ true → zeros 96 112 s ≡ false → (b : Bool) → unused_clear k s ≡ b → refusal_of s ≡ 4
   filled_by v h true e = let z : true ≡ false = sym (past_five v e) ∙ h in cc
-  filled_by v h false e = by_shape s size (Known k) known ∙ rw (v, e)
+  filled_by v h false e = by_shape s size (Some k) known ∙ rw (v, e)
 
   -- "the last two voter places must be zero under refusal 4": one byte of them that is not, where 3 is not drawn
   pub filled_draw_4 : values_fit k s ≡ true → zeros 96 112 s ≡ false → refusal_of s ≡ 4

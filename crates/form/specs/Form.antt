@@ -1,14 +1,12 @@
 -- The refusal of any list of bytes by its form: 1, 2, 3, 4 or none, in that order, as document 01's table has them.
-use Rattle.std.specs.Prelude.{Bool, true, cond, not, ◌&&◌, ◌||◌, List, [], ◌∷◌, ◌++◌, ℕ, zero, suc, ◌+◌, ◌*◌, length, get_or, drop, replicate, eqb, leb}
+use Rattle.std.specs.Prelude.{Bool, true, cond, not, ◌&&◌, ◌||◌, List, [], ◌∷◌, ◌++◌, ℕ, zero, suc, ◌+◌, ◌*◌, length, get_or, drop, replicate, eqb, leb, Some, None}
 use Rattle.form.specs.declared.Form.{Form}
 use Rattle.form.specs.declared.Form.TheVariants.{Sound, Length, Kind, Value, Unused}
 use Rattle.form.specs.declared.kind.Values.{Values}
 use Rattle.form.specs.declared.kind.Shape.{Shape}
-use Rattle.form.specs.declared.kind.Shaped.{Shaped}
-use Rattle.form.specs.declared.kind.Shaped.TheVariants.{Known, Unknown}
 use Rattle.record.specs.Limits.{record_size, key_limit, voters_at, spans_at}
 use Rattle.record.specs.Numbers.{part, byte_at}
-use Rattle.form.specs.KindTable.{shape_of}
+use Rattle.form.specs.KindTable.{shape_of, Shaped}
 
 -- every byte of a list is zero
 unfoldable pub all_zero : List ℕ → Bool
@@ -88,8 +86,8 @@ unused_clear k s =
 
 -- refusals 2, 3 and 4 of 368 bytes
 abbrev pub shaped_refusal : Shaped → List ℕ → ℕ
-shaped_refusal Unknown s = 2
-shaped_refusal (Known k) s = cond (values_fit k s) (cond (unused_clear k s) 0 4) 3
+shaped_refusal None s = 2
+shaped_refusal (Some k) s = cond (values_fit k s) (cond (unused_clear k s) 0 4) 3
 
 -- the refusal's number, 0 where the form draws none
 unfoldable pub refusal_of : List ℕ → ℕ

@@ -1,10 +1,8 @@
 -- The kinds of records as data: which values and which places each uses, a row for each kind of document 01's "Records".
-use Rattle.std.specs.Prelude.{Bool, true, false, List, [], ◌∷◌, ℕ, get_or}
+use Rattle.std.specs.Prelude.{Bool, true, false, List, [], ◌∷◌, ℕ, get_or, Option, Some, None}
 use Rattle.form.specs.declared.kind.Values.{Values}
 use Rattle.form.specs.declared.kind.Numbers.{Numbers}
 use Rattle.form.specs.declared.kind.Shape.{Shape}
-use Rattle.form.specs.declared.kind.Shaped.{Shaped}
-use Rattle.form.specs.declared.kind.Shaped.TheVariants.{Known, Unknown}
 use Rattle.record.specs.Limits.{voter_limit, span_limit}
 
 -- the values from low to high; "0 alone where it has none"
@@ -81,28 +79,32 @@ meta_applied = record {
   ends = true;
 }
 
+-- what a number's kind may have, where it is one of a kind
+abbrev pub Shaped : Type 0
+Shaped = Option Shape
+
 -- the kinds by their number, from 0, which is none
 abbrev pub shapes : List Shaped
 shapes =
-    Unknown ∷
-    Known created ∷
-    Known descriptor ∷
-    Known apply ∷
+    None ∷
+    Some created ∷
+    Some descriptor ∷
+    Some apply ∷
     -- 4 RaftRecovered: range, applied, server; 5 RangesRestated and 6 NodeCrashed: nothing
-    Known (plain (numbers true true true false false)) ∷
-    Known (plain (numbers false false false false false)) ∷
-    Known (plain (numbers false false false false false)) ∷
+    Some (plain (numbers true true true false false)) ∷
+    Some (plain (numbers false false false false false)) ∷
+    Some (plain (numbers false false false false false)) ∷
     -- 7 RangeSplit: range, index, right
-    Known (plain (numbers true true true false false)) ∷
-    Known installed ∷
+    Some (plain (numbers true true true false false)) ∷
+    Some installed ∷
     -- 9 RangeRemoved: range; 10 RaftRefused: nothing
-    Known (plain (numbers true false false false false)) ∷
-    Known (plain (numbers false false false false false)) ∷
+    Some (plain (numbers true false false false false)) ∷
+    Some (plain (numbers false false false false false)) ∷
     -- 11 RangeIdsLeased: node, index, run, first, last
-    Known (plain (numbers true true true true true)) ∷
-    Known meta_applied ∷
+    Some (plain (numbers true true true true true)) ∷
+    Some meta_applied ∷
     []
 
 -- "Every kind is decided by its number alone"
 abbrev pub shape_of : ℕ → Shaped
-shape_of kind = get_or shapes kind Unknown
+shape_of kind = get_or shapes kind None

@@ -1,5 +1,5 @@
 // The kinds of records: which values and which places each of the twelve uses.
-ghost use Rattle.std.specs.Prelude.{◌≡◌};
+ghost use Rattle.std.specs.Prelude.{◌≡◌, Some};
 ghost use Rattle.form.specs.KindTable.{plain, shape_of};
 
 use record::limits::{SPAN_LIMIT, VOTER_LIMIT};
@@ -33,12 +33,6 @@ pub struct Shape {
     pub parent: bool,
     // The spans have ends.
     pub ends: bool,
-}
-
-#[derive(Clone, Copy)]
-pub enum Shaped {
-    Known(Shape),
-    Unknown,
 }
 
 // The voters of a kind that has them, and no value but zero for what a kind does not have.
@@ -165,10 +159,10 @@ const META_APPLIED: Shape = Shape {
 };
 
 // A kind that uses numbers and nothing else.
-fn numbered(n: Numbers) -> Shaped
-    ensures { result ≡ Shaped.Known (plain n) }
+fn numbered(n: Numbers) -> Option<Shape>
+    ensures { result ≡ Some (plain n) }
 {
-    Shaped::Known(Shape {
+    Some(Shape {
         codes: ZERO,
         flags: ZERO,
         voters: ZERO,
@@ -180,19 +174,19 @@ fn numbered(n: Numbers) -> Shaped
 }
 
 // What the kind with a number may have: decided over the kind byte, with nothing for a number that no kind has.
-pub fn shape_of(kind: u8) -> Shaped
+pub fn shape_of(kind: u8) -> Option<Shape>
     ensures { result ≡ shape_of kind }
 {
     match kind {
-        1 => Shaped::Known(CREATED),
-        2 => Shaped::Known(DESCRIPTOR),
-        3 => Shaped::Known(APPLY),
+        1 => Some(CREATED),
+        2 => Some(DESCRIPTOR),
+        3 => Some(APPLY),
         4 | 7 => numbered(A_B_C),
         5..=6 | 10 => numbered(NONE),
-        8 => Shaped::Known(INSTALLED),
+        8 => Some(INSTALLED),
         9 => numbered(A),
         11 => numbered(A_TO_E),
-        12 => Shaped::Known(META_APPLIED),
-        _ => Shaped::Unknown,
+        12 => Some(META_APPLIED),
+        _ => None,
     }
 }

@@ -7,7 +7,7 @@ ghost use Rattle.std.specs.Prelude.{◌≡◌, ◌≤◌, length, get_or};
 ghost use Rattle.record.specs.Limits.{record_size, key_size, voter_limit, span_limit, spans_at};
 ghost use Rattle.form.specs.Form.{all_zero, padding_bits, padded, length_fits, places_from, every, within, counts_fit, values_fit, numbers_clear, spans_clear, unused_clear, refusal_of, form_number};
 
-use crate::kind::{Shape, Shaped, Values, shape_of};
+use crate::kind::{Shape, Values, shape_of};
 use record::limits::{KEY_LIMIT, KEY_SIZE, RECORD_SIZE, SPANS_AT, VOTERS_AT};
 use record::number::index;
 
@@ -182,8 +182,7 @@ pub fn form_of(rec: &[u8]) -> Form
         return Form::Length;
     }
     let kind = rec[0];
-    let shaped = shape_of(kind);
-    let Shaped::Known(k) = shaped else {
+    let Some(k) = shape_of(kind) else {
         return Form::Kind;
     };
     if !values_fit(rec, k) {

@@ -88,12 +88,12 @@ module _ (x : TraceRecord) (h : History) where
   pub case_not : Not ≡ written_as x h → None ≡ generations_at x h
   case_not e = none_case (not_is e)
 
-  pub case_unrated : {range index : ℕ} {r : Case} → range ≡ x.a → index ≡ x.b → r ≡ fault 1 (range ∷ index ∷ 0 ∷ 0 ∷ 0 ∷ [])
+  pub case_unrated : {range index : ℕ} {r : Case} → range ≡ x.a → index ≡ x.b → r ≡ fault 1 (range ∷ index ∷ [])
       → Unrated ≡ written_as x h → r ≡ generations_at x h
   case_unrated {range} {index} p q d e =
       let w = unrated_is e in
       let v : write_of x h ≡ w.0 = write_is x h w.1 in
-      d ∙ ap (λ (n : ℕ). fault 1 (n ∷ index ∷ 0 ∷ 0 ∷ 0 ∷ [])) p ∙ ap (λ (n : ℕ). fault 1 (x.a ∷ n ∷ 0 ∷ 0 ∷ 0 ∷ [])) q
+      d ∙ ap (λ (n : ℕ). fault 1 (n ∷ index ∷ [])) p ∙ ap (λ (n : ℕ). fault 1 (x.a ∷ n ∷ [])) q
       ∙ ap (λ (o : Write). fault 1 (o.range ∷ o.index ∷ [])) v
       ∙ sym (first_case w.1 ∙ ap (λ (b : Option ℕ). write_fault w.0 b (writes h)) w.2)
 

@@ -1,8 +1,7 @@
 // The generations check at a new record.
-ghost use Rattle.std.specs.Prelude.{◌≡◌, [], ◌∷◌, length};
+ghost use Rattle.std.specs.Prelude.{◌≡◌, length};
 ghost use Rattle.record.specs.Records.{decode};
 ghost use Rattle.rules.specs.declared.Verdict.TheVariants.{Pass};
-ghost use Rattle.rules.specs.Cases.{fault};
 ghost use Rattle.rules.specs.GenerationsRise.{writes, rise_fault, generations_at};
 ghost use Rattle.rules.specs.Reports.{at_last, report_of};
 ghost use Rattle.history.specs.Bounds.{Bounds};
@@ -17,23 +16,7 @@ use crate::write::{Written, counts_as};
 use history::log::record_at;
 use history::span::start_of;
 use record::field::{a, b};
-use rules::{Fault, Evidence};
-
-// A fault with its five numbers.
-fn fault_of(kind: u8, e0: u64, e1: u64, e2: u64, e3: u64, e4: u64) -> Option<Fault>
-    ensures { result ≡ fault kind (e0 ∷ e1 ∷ e2 ∷ e3 ∷ e4 ∷ []) }
-{
-    Case::Fault(
-        kind,
-        Evidence {
-            e0: e0,
-            e1: e1,
-            e2: e2,
-            e3: e3,
-            e4: e4,
-        },
-    )
-}
+use rules::Fault;
 
 // Whether a key's last write, by a range at a generation, opposes a new one.
 fn is_against(range: u64, generation: u64, by: u64, last: u64) -> bool
@@ -63,7 +46,7 @@ fn rise_case(
     let by = a(record_at(log, at));
     let last = written_at(work, cap, at);
     if is_against(range, generation, by, last) {
-        return fault_of(2, range, b(rec), generation, last, by);
+        return Some(Fault::new(2, &[range, b(rec), generation, last, by]));
     }
     None
 }
@@ -82,7 +65,7 @@ pub fn generations_case(
 {
     match w {
         Written::Not => None,
-        Written::Unrated => fault_of(1, a(rec), b(rec), 0, 0, 0),
+        Written::Unrated => Some(Fault::new(1, &[a(rec), b(rec)])),
         Written::Rated(generation) => rise_case(log, work, count, cap, rec, generation),
     }
 }

@@ -1,6 +1,6 @@
 // The writes that count: the first Applied write with a key at each range and index, at the generation of `before`; and a
 // key's last one.
-ghost use Rattle.std.specs.Prelude.{◌≡◌, false, ◌&&◌, ◌*◌, ◌≤◌, leb, length};
+ghost use Rattle.std.specs.Prelude.{◌≡◌, false, ◌&&◌, ◌*◌, ◌≤◌, leb, length, Some};
 ghost use Rattle.record.specs.Keys.{key_in};
 ghost use Rattle.record.specs.Records.{decode};
 ghost use Rattle.record.specs.declared.named.ApplyEffect.TheVariants.{Applied};
@@ -49,7 +49,7 @@ fn generation_of(log: &[u8], count: usize, found: Option<u64>) -> Written
 
 fn generation_at(log: &[u8], count: usize, n: u64) -> Written
     requires { 368 * count ≤ length log.now }
-    ensures { result ≡ found_generation log.now count (Found.At n) }
+    ensures { result ≡ found_generation log.now count (Some n) }
 {
     if n == 0 {
         return Written::Unrated;

@@ -23,10 +23,10 @@ use Rattle.ids_unique.proofs.Sharing.{shared_case, above_all}
 -- a first grant: empty; above every block; or as the walk says
 module _ (g : Grant) (bs : List Grant) where
   pub empty_case : {first last b : ℕ} {r : Case} → first ≡ g.first → last ≡ g.last → last < first → b ≡ g.index
-      → r ≡ fault 2 (b ∷ 0 ∷ []) → r ≡ first_fault g bs
+      → r ≡ fault 2 (b ∷ []) → r ≡ first_fault g bs
   empty_case p q l i e =
       let n : leb g.first g.last ≡ false = lt-leb g.first g.last (omega arith) in
-      e ∙ ap (λ (k : ℕ). fault 2 (k ∷ 0 ∷ [])) i ∙ rw n
+      e ∙ ap (λ (k : ℕ). fault 2 (k ∷ [])) i ∙ rw n
 
   full_case : {first last : ℕ} → first ≡ g.first → last ≡ g.last → first ≤ last → first_fault g bs ≡ fault_if (any_of (shares g) bs) (shared_fault g bs)
   full_case p q l =
@@ -58,10 +58,10 @@ module _ (g o : Grant) {t : Bool} (e : t ≡ grant_eqb g o) where
   pub again_same : t ≡ true → None ≡ fault_if (not (grant_eqb g o)) (fault 1 (g.index ∷ []))
   again_same q = let n : grant_eqb g o ≡ true = sym e ∙ q in rw n
 
-  pub again_other : {b : ℕ} {r : Case} → t ≡ false → b ≡ g.index → r ≡ fault 1 (b ∷ 0 ∷ []) → r ≡ fault_if (not (grant_eqb g o)) (fault 1 (g.index ∷ []))
+  pub again_other : {b : ℕ} {r : Case} → t ≡ false → b ≡ g.index → r ≡ fault 1 (b ∷ []) → r ≡ fault_if (not (grant_eqb g o)) (fault 1 (g.index ∷ []))
   again_other q i d =
       let n : grant_eqb g o ≡ false = sym e ∙ q in
-      d ∙ ap (λ (k : ℕ). fault 1 (k ∷ 0 ∷ [])) i ∙ rw n
+      d ∙ ap (λ (k : ℕ). fault 1 (k ∷ [])) i ∙ rw n
 
 -- the case of a record: no grant; a first one; one again
 module _ (x : TraceRecord) where

@@ -1,8 +1,6 @@
 -- What the answers of this crate's functions stand for in the rules.
-use Rattle.std.specs.Prelude.{◌≡◌, Bool, cond, List, [], ◌∷◌, ◌++◌, ℕ, length, drop, ltb}
+use Rattle.std.specs.Prelude.{◌≡◌, Bool, cond, List, [], ◌∷◌, ◌++◌, ℕ, length, drop, ltb, Option, None, Some}
 use Rattle.rules.specs.IdsUnique.{Grant}
-use Rattle.ids_unique.specs.declared.list.Listed.{Listed}
-use Rattle.ids_unique.specs.declared.list.Listed.TheVariants.{All, TooShort}
 
 -- "`blocks` three words a block (first, last, node)"
 unfoldable pub block_words : List Grant → List ℕ
@@ -18,11 +16,15 @@ holder_words (g ∷ gs) = g.node ∷ holder_words gs
 abbrev pub too_short : List ℕ → List ℕ → Bool
 too_short words out = ltb (length out) (length words)
 
+-- how many a look-up lists, all of them written; none where the list is too short
+abbrev pub Listed : Type 0
+Listed = Option ℕ
+
 -- the words, and "leave the rest of the list"; the list as it was where it is too short
 pub record ListedIn (words out out' : List ℕ) (n : ℕ) (r : Listed) : Type 0 where
   pub list : out' ≡ cond (too_short words out) out (words ++ drop (length words) out)
-  pub answer : r ≡ cond (too_short words out) TooShort (All n)
+  pub answer : r ≡ cond (too_short words out) None (Some n)
 
 -- "A refusal returns its number ..; all buffers unchanged", of 8, whatever the work area holds
 abbrev pub ShortKept : List ℕ → List ℕ → Listed → Type 0
-ShortKept out out' r = r ≡ TooShort → out' ≡ out
+ShortKept out out' r = r ≡ None → out' ≡ out

@@ -13,23 +13,7 @@ use crate::cells::greatest_last;
 use firsts::cells::grant_at;
 use history::log::record_at;
 use record::field::{a, b, c, d, e, kind};
-use rules::{Fault, Evidence};
-
-// A fault with its first two numbers.
-fn fault_of(kind: u8, e0: u64, e1: u64) -> Option<Fault>
-    ensures { result ≡ fault kind (e0 ∷ e1 ∷ []) }
-{
-    Case::Fault(
-        kind,
-        Evidence {
-            e0: e0,
-            e1: e1,
-            e2: 0,
-            e3: 0,
-            e4: 0,
-        },
-    )
-}
+use rules::Fault;
 
 // Whether two grants have the same node, run, first and last.
 fn same_grant(new: &[u8], old: &[u8]) -> bool
@@ -47,7 +31,7 @@ fn again_case(new: &[u8], old: &[u8]) -> Option<Fault>
     if same_grant(new, old) {
         return None;
     }
-    fault_of(1, b(new), 0)
+    Some(Fault::new(1, &[b(new)]))
 }
 
 // The case of a first grant. A block above every older one shares no id with any, and needs no walk.
@@ -58,14 +42,14 @@ fn first_case(log: &[u8], work: &[u64], count: usize, cap: usize, rec: &[u8]) ->
     let first = d(rec);
     let last = e(rec);
     if last < first {
-        return fault_of(2, b(rec), 0);
+        return Some(Fault::new(2, &[b(rec)]));
     }
     if greatest_last(work, cap, count) < first {
         return None;
     }
     let s = shared_with(log, work, count, cap, first, last);
     if s.any {
-        return fault_of(3, b(rec), s.top);
+        return Some(Fault::new(3, &[b(rec), s.top]));
     }
     None
 }

@@ -1,4 +1,6 @@
 -- A look-up's ways to answer: refused, of no capacity and so of no records, too long for the list, and given. Assumes nothing.
+use Rattle.std.proofs.lemmas.Option.{none-some}
+use Rattle.std.specs.Prelude.{None, Some}
 use mathlib.Core.Path.{◌≡◌, refl, sym, ap, ◌∙◌, subst}
 use mathlib.Core.Bool.{Bool, true, false, cond}
 use mathlib.Core.List.{List, [], ◌++◌}
@@ -13,9 +15,7 @@ use Rattle.rules.specs.Descriptors.{standing, stated, before_in, at_in, first_at
 use Rattle.rules.specs.IdsUnique.{first_grants, blocks_of, in_order, blocks, holders_of}
 use Rattle.history.specs.Logs.{hist}
 use Rattle.history.proofs.Logs.{hist_none}
-use Rattle.ids_unique.specs.declared.list.Listed.{Listed}
-use Rattle.ids_unique.specs.declared.list.Listed.TheVariants.{All, TooShort}
-use Rattle.ids_unique.specs.Answers.{too_short, ListedIn, block_words, holder_words}
+use Rattle.ids_unique.specs.Answers.{Listed, too_short, ListedIn, block_words, holder_words}
 use Rattle.judge.specs.declared.lookup.Looked.{Looked}
 use Rattle.judge.specs.declared.lookup.Question.{Question}
 use Rattle.judge.specs.declared.lookup.Question.TheVariants.{Before, At, FirstAtGeneration, Statements, IsEmpty, HoldersOf, Blocks}
@@ -59,40 +59,37 @@ none_others Blocks k = refl
 pub none_fit : (out : List ℕ) → too_short [] out ≡ false
 none_fit out = le-ltb (length out) 0 (omega arith)
 
-short_by : (t : Bool) (k : ℕ) → TooShort ≡ cond t TooShort (All k) → t ≡ true
+short_by : (t : Bool) (k : ℕ) → None ≡ cond t None (Some k) → t ≡ true
 short_by true k e = refl
 short_by false k e = absurd (let z : ◌≡◌ {A = ℕ} 0 1 = cc in omega arith)
 
-all_by : (t : Bool) (k m : ℕ) → All m ≡ cond t TooShort (All k) → (t ≡ false) × (m ≡ k)
+all_by : (t : Bool) (k m : ℕ) → Some m ≡ cond t None (Some k) → (t ≡ false) × (m ≡ k)
 all_by true k m e = absurd (let z : ◌≡◌ {A = ℕ} 0 1 = cc in omega arith)
 all_by false k m e = (refl, cc)
 
 -- an answer without words
-listed_value : {words out : List ℕ} {n : ℕ} {l : Listed} → words ≡ [] → l ≡ All n → ListedIn words out out n l
+listed_value : {words out : List ℕ} {n : ℕ} {l : Listed} → words ≡ [] → l ≡ Some n → ListedIn words out out n l
 listed_value {words} {out} {n} {l} w e =
     let t : too_short words out ≡ false = ap (λ (ws : List ℕ). too_short ws out) w ∙ none_fit out in
     record {
       list = sym (ap (λ (b : Bool). cond b out (words ++ drop (length words) out)) t ∙ ap (λ (ws : List ℕ). ws ++ drop (length ws) out) w);
-      answer = e ∙ sym (ap (λ (b : Bool). cond b TooShort (All n)) t);
+      answer = e ∙ sym (ap (λ (b : Bool). cond b None (Some n)) t);
     }
 
-all_fits : (n : ℕ) → All n ≡ TooShort → ⊥
-all_fits n e = let z : ◌≡◌ {A = ℕ} 0 1 = cc in omega arith
-
 -- a question by one that it is: one that writes a list, and one that writes none
-pub listed_as : {q p : Question} {cap n : ℕ} {log work out out' : List ℕ} {l : Listed} → q ≡ p → writes p ≡ true → (l ≡ TooShort → out' ≡ out)
+pub listed_as : {q p : Question} {cap n : ℕ} {log work out out' : List ℕ} {l : Listed} → q ≡ p → writes p ≡ true → (l ≡ None → out' ≡ out)
     → (Indexed cap (hist log n) work → ListedIn (words_of p (hist log n)) out out' (value_of p (hist log n)) l)
     → ListedBy q cap log work n out out' l
 listed_as {cap = cap} {n = n} {log = log} {work = work} {out = out} {out' = out'} {l = l} e w s g =
     subst (λ (p : Question). ListedBy p cap log work n out out' l) (sym e) (record { short = s; bare = λ x. never w x; listed = g })
 
 pub valued_as : {q p : Question} {cap n v : ℕ} {log work : List ℕ} → q ≡ p → (out : List ℕ) → ((h : History) → words_of p h ≡ [])
-    → (Indexed cap (hist log n) work → v ≡ value_of p (hist log n)) → ListedBy q cap log work n out out (All v)
+    → (Indexed cap (hist log n) work → v ≡ value_of p (hist log n)) → ListedBy q cap log work n out out (Some v)
 valued_as {cap = cap} {n = n} {v = v} {log = log} {work = work} e out w g =
-    subst (λ (p : Question). ListedBy p cap log work n out out (All v)) (sym e) (record {
+    subst (λ (p : Question). ListedBy p cap log work n out out (Some v)) (sym e) (record {
       short = λ s. refl;
-      bare = λ x. (all_fits v, refl);
-      listed = λ i. listed_value (w (hist log n)) (ap All (g i));
+      bare = λ x. (λ n. none-some v (sym n), refl);
+      listed = λ i. listed_value (w (hist log n)) (ap Some (g i));
     })
 
 -- the judge that a test hands back is the one given
@@ -135,7 +132,7 @@ module _ (q : Question) (j : Judge) (log work out : List ℕ) where
       }
 
   module _ {out' : List ℕ} {l : Listed} (e : lends j log work ≡ true) (g : ListedBy q j.capacity log work j.count out out' l) where
-    pub looked_short : l ≡ TooShort → LookedBy q j log work out out' (record { refusal = Output; judge = j; value = 0 })
+    pub looked_short : l ≡ None → LookedBy q j log work out out' (record { refusal = Output; judge = j; value = 0 })
     looked_short s = record {
       judge = refl;
       refused = λ x. never e x;
@@ -150,7 +147,7 @@ module _ (q : Question) (j : Judge) (log work out : List ℕ) where
           };
     }
 
-    pub looked_given : {k : ℕ} → l ≡ All k → LookedBy q j log work out out' (record { refusal = Nothing; judge = j; value = k })
+    pub looked_given : {k : ℕ} → l ≡ Some k → LookedBy q j log work out out' (record { refusal = Nothing; judge = j; value = k })
     looked_given {k} s = record {
       judge = refl;
       refused = λ x. never e x;

@@ -6,9 +6,7 @@ use Rattle.rules.specs.Descriptors.{before, at, first_at_generation, statements,
 use Rattle.rules.specs.IdsUnique.{blocks, holders_of}
 use Rattle.history.specs.Logs.{hist}
 use Rattle.descriptors.specs.Answers.{found_by}
-use Rattle.ids_unique.specs.declared.list.Listed.{Listed}
-use Rattle.ids_unique.specs.declared.list.Listed.TheVariants.{TooShort}
-use Rattle.ids_unique.specs.Answers.{block_words, holder_words, too_short, ListedIn}
+use Rattle.ids_unique.specs.Answers.{Listed, block_words, holder_words, too_short, ListedIn}
 use Rattle.judge.specs.declared.lookup.Looked.{Looked}
 use Rattle.judge.specs.declared.lookup.Question.{Question}
 use Rattle.judge.specs.declared.lookup.Question.TheVariants.{Before, At, FirstAtGeneration, Statements, IsEmpty, HoldersOf, Blocks}
@@ -60,8 +58,8 @@ writes Blocks = true
 -- what is answered for the records that the columns are of; and whatever they are, a list that is too short stays as it was, and
 -- to a question that writes none no list is too short, and it stays as it was
 pub record ListedBy (q : Question) (cap : ℕ) (log work : List ℕ) (n : ℕ) (out out' : List ℕ) (r : Listed) : Type 0 where
-  pub short : r ≡ TooShort → out' ≡ out
-  pub bare : writes q ≡ false → (r ≡ TooShort → ⊥) × (out' ≡ out)
+  pub short : r ≡ None → out' ≡ out
+  pub bare : writes q ≡ false → (r ≡ None → ⊥) × (out' ≡ out)
   pub listed : Indexed cap (hist log n) work → ListedIn (words_of q (hist log n)) out out' (value_of q (hist log n)) r
 
 -- a judge with its buffers' lengths draws no refusal 5

@@ -6,7 +6,7 @@ ghost use Rattle.judge.specs.Lookups.{found_number, truth, value_of, ListedBy, L
 use crate::state::{Judge, Refusal};
 use descriptors::cells::{is_empty, statements};
 use descriptors::value::{at, before, first_at_generation};
-use ids_unique::list::{Listed, blocks, holders_of};
+use ids_unique::list::{blocks, holders_of};
 
 // What can be asked of the records taken, by the names of the Rust. The last two write a list.
 #[derive(Clone, Copy)]
@@ -33,10 +33,7 @@ pub struct Looked {
 fn found_number(found: Option<u64>) -> usize
     ensures { result ≡ found_number found }
 {
-    match found {
-        Some(number) => number as usize,
-        None => 0,
-    }
+    found.map_or(0, |number| number as usize)
 }
 
 // 1 for what holds, else 0.
@@ -56,7 +53,7 @@ fn of_none(question: Question) -> u64
     }
 }
 
-// The answer of the records that the columns are of.
+// The answer of the records that the columns are of, or none where the list is too short for it.
 fn answer(
     log: &[u8],
     work: &[u64],
@@ -64,23 +61,23 @@ fn answer(
     cap: usize,
     question: Question,
     out: &mut [u64],
-) -> Listed
+) -> Option<usize>
     requires { Bounds log.now work.now n cap }
     ensures { ListedBy question cap log.now work.now n out.old out.new result }
 {
     match question {
         Question::Before(range, index) => {
-            Listed::All(found_number(before(log, work, n, cap, range, index)))
+            Some(found_number(before(log, work, n, cap, range, index)))
         }
         Question::At(range, index) => {
-            Listed::All(found_number(at(log, work, n, cap, range, index)))
+            Some(found_number(at(log, work, n, cap, range, index)))
         }
         Question::FirstAtGeneration(range, generation) => {
             let first = first_at_generation(log, work, n, cap, range, generation);
-            Listed::All(found_number(first))
+            Some(found_number(first))
         }
-        Question::Statements => Listed::All(statements(work, n, cap) as usize),
-        Question::IsEmpty => Listed::All(truth(is_empty(work, n, cap))),
+        Question::Statements => Some(statements(work, n, cap) as usize),
+        Question::IsEmpty => Some(truth(is_empty(work, n, cap))),
         Question::HoldersOf(id) => holders_of(log, work, n, cap, id, out),
         Question::Blocks => blocks(log, work, n, cap, out),
     }
@@ -109,18 +106,17 @@ impl Judge {
                 value: of_none(question),
             };
         }
-        let found = answer(log, work, n, cap, question, out);
-        match found {
-            Listed::TooShort => Looked {
+        let Some(value) = answer(log, work, n, cap, question, out) else {
+            return Looked {
                 refusal: Refusal::Output,
                 judge: judge,
                 value: 0,
-            },
-            Listed::All(value) => Looked {
-                refusal: Refusal::Nothing,
-                judge: judge,
-                value: value as u64,
-            },
+            };
+        };
+        Looked {
+            refusal: Refusal::Nothing,
+            judge: judge,
+            value: value as u64,
         }
     }
 }

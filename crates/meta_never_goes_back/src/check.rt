@@ -24,8 +24,8 @@ pub fn meta<'a>(log: &'a [u8], work: &[u64], count: usize, cap: usize, rec: &'a 
         return None;
     }
     let descriptor = descriptor_case(log, work, count, cap, rec);
-    match descriptor {
-        Case::Fault(kind, evidence) => Case::Fault(kind, evidence),
-        None => won_case(log, work, count, cap, rec),
+    if descriptor.is_some() {
+        return descriptor;
     }
+    won_case(log, work, count, cap, rec)
 }

@@ -5,23 +5,14 @@ ghost use Rattle.rules.specs.Cases.{fault};
 ghost use Rattle.rules.specs.MetaNeverGoesBack.{name_by, name_fault};
 
 use record::field::{a, b, d};
-use rules::{Fault, Evidence};
+use rules::Fault;
 
 // Kinds 1 and 2: range, generation, index.
 pub fn descriptor_fault(kind: u8, rec: &[u8]) -> Option<Fault>
     requires { length rec.now ≡ 368 }
     ensures { result ≡ fault kind ((decode rec.now).a ∷ (decode rec.now).d ∷ (decode rec.now).b ∷ []) }
 {
-    Case::Fault(
-        kind,
-        Evidence {
-            e0: a(rec),
-            e1: d(rec),
-            e2: b(rec),
-            e3: 0,
-            e4: 0,
-        },
-    )
+    Some(Fault::new(kind, &[a(rec), d(rec), b(rec)]))
 }
 
 // Kinds 3 and 4, of a key that a record wins and another named: index, range, generation, old generation, and for kind 4
@@ -36,30 +27,12 @@ pub fn name_fault(rec: &[u8], old: &[u8]) -> Option<Fault>
     let old_generation = d(old);
     if old_index < index {
         if generation < old_generation {
-            return Case::Fault(
-                3,
-                Evidence {
-                    e0: index,
-                    e1: a(rec),
-                    e2: generation,
-                    e3: old_generation,
-                    e4: 0,
-                },
-            );
+            return Some(Fault::new(3, &[index, a(rec), generation, old_generation]));
         }
         return None;
     }
     if old_generation < generation {
-        return Case::Fault(
-            4,
-            Evidence {
-                e0: index,
-                e1: a(rec),
-                e2: generation,
-                e3: old_generation,
-                e4: old_index,
-            },
-        );
+        return Some(Fault::new(4, &[index, a(rec), generation, old_generation, old_index]));
     }
     None
 }

@@ -94,7 +94,7 @@ fn walk_case<'a>(log: &'a [u8], work: &[u64], count: usize, cap: usize, rec: &'a
         loop {
             if i == 0 {
                 let case = key_case(log, standing, rec);
-                if is_fault(case) {
+                if case.is_some() {
                     break 'walk case;
                 }
                 break;

@@ -11,7 +11,7 @@ use borrow.Author.Tests.{lt-ltb, le-ltb, eq-eqb, ne_eqb}
 use Rattle.record.specs.declared.named.NodeId.{NodeId}
 use Rattle.record.specs.Records.{Span, TraceRecord}
 use Rattle.rules.specs.Answers.{Found, found_at}
-use Rattle.rules.specs.History.{History, is_kind, is_by, holds, lower}
+use Rattle.rules.specs.History.{History, is_kind, is_by, is_some, holds, lower}
 use Rattle.rules.specs.Descriptors.{span_of}
 use Rattle.rules.specs.OneOwnerPerKey.{is_holding, hold_of, has_hold}
 use Rattle.history.specs.Logs.{record_at, hist}
@@ -41,20 +41,13 @@ module _ (node range : ℕ) (log : List ℕ) (n : ℕ) {k ended : ℕ} (ek : k �
 
 -- ---- what was found
 
-found_case : (n k : ℕ) → found_at n ≡ Some k → not (eqb n 0) ≡ true
-found_case zero k h = let z : ◌≡◌ {A = ℕ} 0 1 = cc in absurd (omega arith)
-found_case (suc n) k h = ap not (ne_eqb (suc n) 0 (λ q. omega arith))
+found_case : (n : ℕ) → not (eqb n 0) ≡ is_some (found_at n)
+found_case zero = refl
+found_case (suc n) = ap not (ne_eqb (suc n) 0 (λ q. omega arith))
 
-lost_case : (n : ℕ) → found_at n ≡ None → not (eqb n 0) ≡ false
-lost_case zero h = refl
-lost_case (suc n) h = let z : ◌≡◌ {A = ℕ} 0 1 = cc in absurd (omega arith)
-
-module _ (node range : ℕ) (h : History) {f : Found} (e : f ≡ found_at (hold_number node range h)) where
-  pub found_held : {k : ℕ} → f ≡ Some k → has_hold node range h ≡ true
-  found_held {k} g = held_some node range h ∙ found_case (hold_number node range h) k (sym e ∙ g)
-
-  pub lost_held : f ≡ None → has_hold node range h ≡ false
-  lost_held g = held_some node range h ∙ lost_case (hold_number node range h) (sym e ∙ g)
+-- a range is held where its hold is found
+pub found_held : (node range : ℕ) (h : History) {f : Found} → f ≡ found_at (hold_number node range h) → has_hold node range h ≡ is_some f
+found_held node range h e = held_some node range h ∙ found_case (hold_number node range h) ∙ ap is_some (sym e)
 
 -- ---- a span that meets the one held
 

@@ -1,23 +1,9 @@
--- What the enums of this crate say, and the ranges that a record's span may not meet.
+-- The ranges that a record's span may not meet, and those below the lowest so far.
 use Rattle.std.specs.Prelude.{Bool, true, not, List, ℕ, eqb, ltb, Option, None, Some}
 use Rattle.record.specs.Records.{Span}
 use Rattle.rules.specs.OneOwnerPerKey.{is_named}
-use Rattle.one_owner_per_key.specs.declared.group.Group.{Group}
-use Rattle.one_owner_per_key.specs.declared.group.Group.TheVariants.{Named, Unnamed}
-use Rattle.one_owner_per_key.specs.declared.meeting.Meeting.{Meeting}
-use Rattle.one_owner_per_key.specs.declared.meeting.Meeting.TheVariants.{Range, Apart}
 use Rattle.one_owner_per_key.specs.declared.meeting.Others.{Others}
 use Rattle.one_owner_per_key.specs.declared.meeting.Others.TheVariants.{Than, NotNamed}
-
--- the group that a start names
-abbrev pub group_in : Group → Option ℕ
-group_in (Named g) = Some g
-group_in Unnamed = None
-
--- the range that was met
-abbrev pub range_in : Meeting → Option ℕ
-range_in (Range r) = Some r
-range_in Apart = None
 
 -- overlap looks at the ranges other than the record's own, install at those that no start in the record names
 abbrev pub passes : Others → List Span → ℕ → Bool

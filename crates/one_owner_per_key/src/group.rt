@@ -5,19 +5,11 @@ ghost use Rattle.record.specs.Numbers.{part, big_endian};
 ghost use Rattle.record.specs.Records.{decode};
 ghost use Rattle.rules.specs.History.{holds};
 ghost use Rattle.rules.specs.OneOwnerPerKey.{group_of, is_named};
-ghost use Rattle.one_owner_per_key.specs.Answers.{group_in};
 
 use history::span::start_of;
 use record::field::span_count;
 use record::key::key;
 use record::number::{wide32, wide64};
-
-// What a start names.
-#[derive(Clone, Copy)]
-pub enum Group {
-    Named(u64),
-    Unnamed,
-}
 
 // The number of four bytes and of eight, the first counting most.
 fn big32(s: &[u8], at: usize) -> u32
@@ -37,17 +29,17 @@ fn big64(s: &[u8], at: usize) -> u64
 }
 
 // The group that the key in a place names.
-pub fn group_of(place: &[u8], tenant: u64) -> Group
-    ensures { group_in result ≡ group_of tenant (key_in place.now) }
+pub fn group_of(place: &[u8], tenant: u64) -> Option<u64>
+    ensures { result ≡ group_of tenant (key_in place.now) }
 {
     let start = key(place);
     if start.len() < 16 {
-        return Group::Unnamed;
+        return None;
     }
     if big64(start, 0) == tenant {
-        Group::Named(big64(start, 8))
+        Some(big64(start, 8))
     } else {
-        Group::Unnamed
+        None
     }
 }
 
@@ -55,11 +47,7 @@ pub fn group_of(place: &[u8], tenant: u64) -> Group
 fn names(place: &[u8], tenant: u64, range: u64) -> bool
     ensures { result ≡ holds (λ g. eqb g range) (group_of tenant (key_in place.now)) }
 {
-    let g = group_of(place, tenant);
-    let Group::Named(n) = g else {
-        return false;
-    };
-    n == range
+    group_of(place, tenant) == Some(range)
 }
 
 // Whether a start in the record names a range.

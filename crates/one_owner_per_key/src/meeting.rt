@@ -10,7 +10,7 @@ ghost use Rattle.history.specs.Bounds.{Bounds};
 ghost use Rattle.history.specs.Logs.{hist};
 ghost use Rattle.one_owner_per_key.specs.Numbers.{latest_end};
 ghost use Rattle.one_owner_per_key.specs.Columns.{OwnersIndexed};
-ghost use Rattle.one_owner_per_key.specs.Answers.{range_in, is_below};
+ghost use Rattle.one_owner_per_key.specs.Answers.{is_below};
 ghost use Rattle.one_owner_per_key.specs.Answers as answer;
 
 use crate::cells::{end_by, latest_newly, newly_before};
@@ -27,13 +27,6 @@ use record::named::NodeId;
 pub enum Others {
     Than(u64),
     NotNamed(u64),
-}
-
-// The range that was met.
-#[derive(Clone, Copy)]
-pub enum Meeting {
-    Range(u64),
-    Apart,
 }
 
 // Whether a range is among those that may not be met.
@@ -82,13 +75,10 @@ fn is_met(
 }
 
 // Whether a range is below the lowest so far.
-fn is_below(range: u64, best: Meeting) -> bool
-    ensures { result ≡ is_below range (range_in best) }
+fn is_below(range: u64, best: Option<u64>) -> bool
+    ensures { result ≡ is_below range best }
 {
-    match best {
-        Meeting::Range(b) => range < b,
-        Meeting::Apart => true,
-    }
+    best.is_none_or(|lowest| range < lowest)
 }
 
 // The lowest so far, with a range more.
@@ -103,15 +93,15 @@ fn lowered(
     rec: &[u8],
     k: usize,
     others: Others,
-    best: Meeting,
-) -> Meeting
+    best: Option<u64>,
+) -> Option<u64>
     requires { Bounds log.now work.now count cap × ((length rec.now ≡ 368) × (k < 4)) }
-    ensures { OwnersIndexed cap (hist log.now count) work.now → ended ≡ latest_end node.0 (hist log.now count) → range_in result ≡ cond (answer.passes others (decode rec.now).spans range && holds (rule.meets (span_of k (decode rec.now))) (hold_of node.0 range (hist log.now count))) (lower (λ n. n) range (range_in best)) (range_in best) }
+    ensures { OwnersIndexed cap (hist log.now count) work.now → ended ≡ latest_end node.0 (hist log.now count) → result ≡ cond (answer.passes others (decode rec.now).spans range && holds (rule.meets (span_of k (decode rec.now))) (hold_of node.0 range (hist log.now count))) (lower (λ n. n) range best) best }
 {
     if is_below(range, best) {
         if passes(rec, others, range) {
             if is_met(log, work, count, cap, node, range, ended, rec, k) {
-                return Meeting::Range(range);
+                return Some(range);
             }
         }
     }
@@ -128,13 +118,13 @@ pub fn lowest_meeting(
     rec: &[u8],
     k: usize,
     others: Others,
-) -> Meeting
+) -> Option<u64>
     requires { Bounds log.now work.now count cap × ((length rec.now ≡ 368) × (k < 4)) }
-    ensures { OwnersIndexed cap (hist log.now count) work.now → range_in result ≡ lowest_meeting (answer.passes others (decode rec.now).spans) (span_of k (decode rec.now)) node.0 (hist log.now count) }
+    ensures { OwnersIndexed cap (hist log.now count) work.now → result ≡ lowest_meeting (answer.passes others (decode rec.now).spans) (span_of k (decode rec.now)) node.0 (hist log.now count) }
 {
     let last = latest_of(log, work, count, cap, count, node);
     let ended = end_by(work, cap, last);
-    let mut best = Meeting::Apart;
+    let mut best = None;
     let mut i = latest_newly(work, cap, last);
     while ended < i {
         let range = field::a(record_at(log, i - 1));

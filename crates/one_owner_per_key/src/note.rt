@@ -77,7 +77,7 @@ fn end_with(rec: &[u8], count: usize, ended: usize) -> usize
 // The cells of a marked record.
 fn cells_of(log: &[u8], work: &[u64], count: usize, cap: usize, rec: &[u8], node: NodeId) -> Cells
     requires { Bounds log.now work.now count cap × ((count < cap) × (length rec.now ≡ 368)) }
-    ensures { OwnersIndexed cap (hist log.now count) work.now → (decode rec.now).node ≡ Node.Marked node → (result.newly ≡ newly_cell (decode rec.now) (hist log.now count)) × (result.ended ≡ ended_cell (decode rec.now) (hist log.now count)) }
+    ensures { OwnersIndexed cap (hist log.now count) work.now → (decode rec.now).node ≡ Some node → (result.newly ≡ newly_cell (decode rec.now) (hist log.now count)) × (result.ended ≡ ended_cell (decode rec.now) (hist log.now count)) }
 {
     let last = latest_of(log, work, count, cap, count, node);
     let ended = end_by(work, cap, last);

@@ -55,11 +55,10 @@ lowest_above v u e = rw e (sym (and-false (v && u)))
 pub lowest_unowed : (u a : Bool) {v : Bool} → v ≡ false → false ≡ v && u && not a
 lowest_unowed u a e = rw e
 
-pub lowest_held : (v a : Bool) {u : Bool} → u ≡ true → false ≡ v && not u && not a
-lowest_held v a e = rw (e, and-false v)
-
-pub lowest_free : {v u a : Bool} → v ≡ true → u ≡ false → a ≡ false → true ≡ v && not u && not a
-lowest_free e f g = rw (e, f, g)
+-- one that is owed, and not above, is the lowest where it is not found to be held
+pub lowest_held : (r : Bool) {v u a : Bool} → v ≡ true → u ≡ not r → a ≡ false → r ≡ v && not u && not a
+lowest_held true e h g = rw (e, h, g)
+lowest_held false e h g = rw (e, h)
 
 -- ---- the split that the record with the number k registered, which a Took is of
 

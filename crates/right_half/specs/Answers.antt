@@ -1,7 +1,6 @@
 -- What is missing by one split, and the lowest so far.
 use Rattle.std.specs.Prelude.{Bool, cond, not, ◌&&◌, List, ℕ, Option, None, Some}
 use Rattle.record.specs.Named.{Node}
-use Rattle.rules.specs.Answers.{Found}
 use Rattle.rules.specs.History.{lower}
 use Rattle.rules.specs.OneOwnerPerKey.{has_hold}
 use Rattle.history.specs.Logs.{hist}
@@ -11,11 +10,6 @@ use Rattle.debts.specs.Walk.{cancel_number, owes_split}
 -- not hold it
 unfoldable pub lacks_split : List ℕ → ℕ → ℕ → ℕ → ℕ → Bool
 lacks_split log n node t right = not (has_hold node right (hist log n)) && owes_split log n node t (cancel_number node right (hist log n))
-
--- the number that was found
-abbrev pub found_in : Found → Option ℕ
-found_in (Some n) = Some n
-found_in None = None
 
 -- the lowest so far, with the node of a record, if it is marked and passes
 abbrev pub lowered_by : (ℕ → Bool) → Node → Option ℕ → Option ℕ

@@ -11,7 +11,6 @@ ghost use Rattle.history.specs.Logs.{hist};
 ghost use Rattle.history.specs.Bounds.{Bounds};
 ghost use Rattle.splits.specs.Numbers.{split_number, named_number};
 ghost use Rattle.splits.specs.Columns.{Known};
-ghost use Rattle.right_half.specs.Answers.{found_in};
 
 use crate::lacking::lowest_lacking;
 use crate::missing::lowest_missing;
@@ -20,26 +19,10 @@ use history::log::record_at;
 use one_owner_per_key::held::{held_by, latest_of};
 use record::field;
 use record::named::NodeId;
-use rules::{Fault, Evidence};
+use rules::Fault;
 use splits::cells::named_by;
 use splits::split::{has_taken, is_voter, parent_of, registers, right_of, split_of};
 use splits::state::server_of;
-
-// A fault of half: node, parent, index, right.
-fn fault_of(kind: u8, node: u64, parent: u64, index: u64, right: u64) -> Option<Fault>
-    ensures { result ≡ fault kind (node ∷ parent ∷ index ∷ right ∷ []) }
-{
-    Case::Fault(
-        kind,
-        Evidence {
-            e0: node,
-            e1: parent,
-            e2: index,
-            e3: right,
-            e4: 0,
-        },
-    )
-}
 
 // The fault of a right range that a node owes and does not hold, with its debt's parent and index. The Rust's `missing`.
 fn missing_case(
@@ -59,13 +42,7 @@ fn missing_case(
         return None;
     }
     let found = record_at(log, k - 1);
-    fault_of(
-        kind,
-        node.0 as u64,
-        parent_of(found),
-        field::b(found),
-        right,
-    )
+    Some(Fault::new(kind, &[node.0 as u64, parent_of(found), field::b(found), right]))
 }
 
 // The case of the lowest right range that a node owes and does not hold, where there is one.
@@ -79,12 +56,10 @@ fn lowest_case(
     lowest: Option<u64>,
 ) -> Option<Fault>
     requires { Bounds log.now work.now count cap }
-    ensures { Known cap (hist log.now count) work.now → found_in lowest ≡ lowest_of (λ n. n) (is_missing node.0 (hist log.now count)) (map (λ s. s.right) (registered (hist log.now count))) → result ≡ missing_fault kind node.0 (hist log.now count) }
+    ensures { Known cap (hist log.now count) work.now → lowest ≡ lowest_of (λ n. n) (is_missing node.0 (hist log.now count)) (map (λ s. s.right) (registered (hist log.now count))) → result ≡ missing_fault kind node.0 (hist log.now count) }
 {
-    match lowest {
-        Some(right) => missing_case(log, work, count, cap, kind, node, right),
-        None => None,
-    }
+    let right = lowest?;
+    missing_case(log, work, count, cap, kind, node, right)
 }
 
 // half of a RangesRestated: its node owes and holds with it what it did before.
@@ -98,12 +73,9 @@ fn restated_case(log: &[u8], work: &[u64], count: usize, cap: usize, node: NodeI
 
 // Whether the lowest so far is below a range.
 fn is_above(right: u64, lowest: Option<u64>) -> bool
-    ensures { result ≡ holds (λ b. ltb b right) (found_in lowest) }
+    ensures { result ≡ holds (λ b. ltb b right) lowest }
 {
-    match lowest {
-        Some(b) => b < right,
-        None => false,
-    }
+    lowest.is_some_and(|range| range < right)
 }
 
 // Whether the right range of the split that a record registered is the lowest that a node owes and does not hold, where
@@ -119,7 +91,7 @@ fn is_lowest(
     lowest: Option<u64>,
 ) -> bool
     requires { Bounds log.now work.now count cap × (length found.now ≡ 368) }
-    ensures { Known cap (hist log.now count) work.now → result ≡ (any_of (λ v. eqb v (server_of node.0 (hist log.now count)).0) (decode found.now).voters && not (has_hold node.0 right (hist log.now count)) && not (holds (λ b. ltb b right) (found_in lowest))) }
+    ensures { Known cap (hist log.now count) work.now → result ≡ (any_of (λ v. eqb v (server_of node.0 (hist log.now count)).0) (decode found.now).voters && not (has_hold node.0 right (hist log.now count)) && not (holds (λ b. ltb b right) lowest)) }
 {
     if is_above(right, lowest) {
         return false;
@@ -127,8 +99,7 @@ fn is_lowest(
     if !is_voter(found, server_of(log, work, count, cap, count, node)) {
         return false;
     }
-    let held = held_by(log, work, count, cap, count, node, right);
-    if let Some(_) = held { false } else { true }
+    held_by(log, work, count, cap, count, node, right).is_none()
 }
 
 // half of a Took of the split that the record with the number k registered: the lowest of what the node owed before and
@@ -149,7 +120,7 @@ fn taken_case(
     let right = right_of(log, count, found, named_by(work, cap, k - 1));
     let lowest = lowest_missing(log, work, count, cap, node);
     if is_lowest(log, work, count, cap, found, node, right, lowest) {
-        return fault_of(1, node.0 as u64, field::a(rec), field::b(rec), right);
+        return Some(Fault::new(1, &[node.0 as u64, field::a(rec), field::b(rec), right]));
     }
     lowest_case(log, work, count, cap, 1, node, lowest)
 }
@@ -195,11 +166,8 @@ fn registering_case(
     let parent = parent_of(rec);
     let index = field::b(rec);
     let right = right_of(log, count, rec, named);
-    let lowest = lowest_lacking(log, work, count, cap, rec, parent, index, right);
-    match lowest {
-        Some(node) => fault_of(2, node, parent, index, right),
-        None => None,
-    }
+    let node = lowest_lacking(log, work, count, cap, rec, parent, index, right)?;
+    Some(Fault::new(2, &[node, parent, index, right]))
 }
 
 // half of a record that may register: kinds 1 and 2.

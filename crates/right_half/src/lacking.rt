@@ -8,7 +8,7 @@ ghost use Rattle.history.specs.Logs.{hist};
 ghost use Rattle.history.specs.Bounds.{Bounds};
 ghost use Rattle.splits.specs.Numbers.{restated_number, refused_number};
 ghost use Rattle.splits.specs.Columns.{Known};
-ghost use Rattle.right_half.specs.Answers.{found_in, lowered_by};
+ghost use Rattle.right_half.specs.Answers.{lowered_by};
 
 use crate::missing::is_below;
 use debts::owed::{cancel_of, is_reached, owes_by};
@@ -65,8 +65,7 @@ pub fn was_held(
     if restated <= refused {
         return false;
     }
-    let held = held_by(log, work, count, cap, restated - 1, node, range);
-    if let Some(_) = held { true } else { false }
+    held_by(log, work, count, cap, restated - 1, node, range).is_some()
 }
 
 // Whether a node lacks the right range of the split that the record registers.
@@ -116,7 +115,7 @@ fn lowered_by(
     best: Option<u64>,
 ) -> Option<u64>
     requires { Bounds log.now work.now count cap × ((length rec.now ≡ 368) × (length found.now ≡ 368)) }
-    ensures { Known cap (hist log.now count) work.now → (s : Registered) → registers (decode rec.now) (hist log.now count) ≡ Some s → parent ≡ s.parent → index ≡ s.index → right ≡ s.right → found_in result ≡ lowered_by (lacks s (decode rec.now) (hist log.now count)) (decode found.now).node (found_in best) }
+    ensures { Known cap (hist log.now count) work.now → (s : Registered) → registers (decode rec.now) (hist log.now count) ≡ Some s → parent ≡ s.parent → index ≡ s.index → right ≡ s.right → result ≡ lowered_by (lacks s (decode rec.now) (hist log.now count)) (decode found.now).node best }
 {
     let marked = field::node(found);
     let Some(node) = marked else {
@@ -143,7 +142,7 @@ pub fn lowest_lacking(
     right: u64,
 ) -> Option<u64>
     requires { Bounds log.now work.now count cap × (length rec.now ≡ 368) }
-    ensures { Known cap (hist log.now count) work.now → (s : Registered) → registers (decode rec.now) (hist log.now count) ≡ Some s → parent ≡ s.parent → index ≡ s.index → right ≡ s.right → found_in result ≡ lowest_of (λ n. n) (lacks s (decode rec.now) (hist log.now count)) (nodes_of (hist log.now count)) }
+    ensures { Known cap (hist log.now count) work.now → (s : Registered) → registers (decode rec.now) (hist log.now count) ≡ Some s → parent ≡ s.parent → index ≡ s.index → right ≡ s.right → result ≡ lowest_of (λ n. n) (lacks s (decode rec.now) (hist log.now count)) (nodes_of (hist log.now count)) }
 {
     let mut best = None;
     let mut i = recorded_top(work, cap, count, parent);

@@ -7,7 +7,7 @@ ghost use Rattle.history.specs.Bounds.{Bounds};
 ghost use Rattle.one_owner_per_key.specs.Numbers.{latest_end};
 ghost use Rattle.splits.specs.Numbers.{refused_number};
 ghost use Rattle.splits.specs.Columns.{Known};
-ghost use Rattle.right_half.specs.Answers.{lacks_split, found_in};
+ghost use Rattle.right_half.specs.Answers.{lacks_split};
 ghost use Rattle.one_owner_per_key.specs.Answers.{is_below};
 
 use debts::owed::{cancel_of, has_part, owes_by};
@@ -20,12 +20,9 @@ use splits::split::right_of;
 
 // Whether a range is below the lowest so far.
 pub fn is_below(right: u64, best: Option<u64>) -> bool
-    ensures { result ≡ is_below right (found_in best) }
+    ensures { result ≡ is_below right best }
 {
-    match best {
-        Some(b) => right < b,
-        None => true,
-    }
+    best.is_none_or(|lowest| right < lowest)
 }
 
 // Whether a node lacks the right range of the split that the record at place t registers; ended: its latest crash or
@@ -69,7 +66,7 @@ fn lowered(
     best: Option<u64>,
 ) -> Option<u64>
     requires { Bounds log.now work.now count cap × (t < count) }
-    ensures { Known cap (hist log.now count) work.now → ended ≡ latest_end node.0 (hist log.now count) → refused ≡ refused_number node.0 (hist log.now count) → found_in result ≡ cond (lacks_split log.now count node.0 t right) (lower (λ n. n) right (found_in best)) (found_in best) }
+    ensures { Known cap (hist log.now count) work.now → ended ≡ latest_end node.0 (hist log.now count) → refused ≡ refused_number node.0 (hist log.now count) → result ≡ cond (lacks_split log.now count node.0 t right) (lower (λ n. n) right best) best }
 {
     if is_below(right, best) {
         if is_lacking(log, work, count, cap, node, ended, refused, t, right) {
@@ -82,7 +79,7 @@ fn lowered(
 // The lowest right range that a node owes and does not hold. The Rust's `owed_and_missing`.
 pub fn lowest_missing(log: &[u8], work: &[u64], count: usize, cap: usize, node: NodeId) -> Option<u64>
     requires { Bounds log.now work.now count cap }
-    ensures { Known cap (hist log.now count) work.now → found_in result ≡ lowest_of (λ n. n) (is_missing node.0 (hist log.now count)) (map (λ s. s.right) (registered (hist log.now count))) }
+    ensures { Known cap (hist log.now count) work.now → result ≡ lowest_of (λ n. n) (is_missing node.0 (hist log.now count)) (map (λ s. s.right) (registered (hist log.now count))) }
 {
     let last = latest_of(log, work, count, cap, count, node);
     let ended = end_by(work, cap, last);

@@ -8,7 +8,7 @@ ghost use Rattle.rules.specs.Reports.{passed};
 ghost use Rattle.rules.specs.Checks.{check_count};
 ghost use Rattle.rows.specs.Rows.{rows_size, kind_word, report_words, verdict_in, report_in, reports_in, KindsFit, kinds_fit, WrittenIn, EntersIn};
 
-use rules::{CHECKS, Fault, Evidence, Report, Verdict};
+use rules::{CHECKS, Evidence, Fault, Report, Verdict};
 
 // The words of a report: kind, position, five evidence numbers.
 pub const REPORT_WORDS: usize = 7;
@@ -135,15 +135,12 @@ pub fn enter(rows: &mut [u64], k: usize, c: Option<Fault>, position: u64)
     requires { (length rows.old ≡ rows_size) × (k < check_count) }
     ensures { EntersIn rows.old k c position rows.new }
 {
-    match c {
-        None => {}
-        Some(fault) => {
-            let report = Report {
-                verdict: Verdict::Faulted(fault.kind),
-                at: position,
-                evidence: fault.evidence,
-            };
-            write_report(rows, REPORT_WORDS * k, report);
-        }
+    if let Some(fault) = c {
+        let report = Report {
+            verdict: Verdict::Faulted(fault.kind),
+            at: position,
+            evidence: fault.evidence,
+        };
+        write_report(rows, REPORT_WORDS * k, report);
     }
 }

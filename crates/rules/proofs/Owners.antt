@@ -1,5 +1,5 @@
 -- The cases of overlap, install and twice, by what the record is and what is found.
-use mathlib.Core.Path.{◌≡◌, sym, ◌∙◌}
+use mathlib.Core.Path.{◌≡◌, refl, sym, ◌∙◌}
 use mathlib.Core.Bool.{true, false, not}
 use Rattle.std.specs.Prelude.{Option, None, Some}
 use Prim.Native.Nat.{ℕ}
@@ -7,10 +7,12 @@ use lib.Dec.{eqb}
 use Rattle.record.specs.Named.{Node}
 use Rattle.record.specs.declared.named.NodeId.{NodeId}
 use Rattle.record.specs.Records.{Span, TraceRecord}
+use Rattle.record.proofs.Booleans.{never}
 use Rattle.rules.specs.Cases.{Case, fault_with, first_case}
-use Rattle.rules.specs.History.{History, is_kind}
+use Rattle.rules.specs.History.{History, is_kind, is_some}
 use Rattle.rules.specs.Descriptors.{span_of}
 use Rattle.rules.specs.OneOwnerPerKey.{is_holding, has_hold, by_marked, lowest_meeting, group_of, is_named, overlap_at, install_fault, install_at, twice_at}
+use Rattle.rules.proofs.Tellings.{none_of}
 
 -- a fault of kind 1 with three numbers of evidence
 abbrev pub fault_by : ℕ → ℕ → ℕ → Case
@@ -74,12 +76,19 @@ module _ (x : TraceRecord) (h : History) where
 -- ---- install, of one span
 
 module _ (tenant : ℕ) (x : TraceRecord) (h : History) (node : ℕ) (s : Span) {g : Option ℕ} (eg : g ≡ group_of tenant s.start) where
-  pub replaced_named : {k : ℕ} → g ≡ Some k → None ≡ install_fault tenant x h node s
-  replaced_named e = rw (← eg, e)
+  named_by : (t : Option ℕ) → t ≡ group_of tenant s.start → is_some t ≡ true → None ≡ install_fault tenant x h node s
+  named_by None e i = never i refl
+  named_by (Some k) e i = rw (← e)
 
-  module _ {o : Option ℕ} (e : g ≡ None) (eo : o ≡ lowest_meeting (λ r. not (is_named tenant x.spans r)) s node h) where
+  pub replaced_named : is_some g ≡ true → None ≡ install_fault tenant x h node s
+  replaced_named i = named_by g eg i
+
+  module _ {o : Option ℕ} (i : is_some g ≡ false) (eo : o ≡ lowest_meeting (λ r. not (is_named tenant x.spans r)) s node h) where
+    unnamed : g ≡ None
+    unnamed = none_of g i
+
     pub replaced_met : {r : ℕ} → o ≡ Some r → fault_by node r 0 ≡ install_fault tenant x h node s
-    replaced_met p = rw (← eg, e, ← eo, p)
+    replaced_met p = rw (← eg, unnamed, ← eo, p)
 
     pub replaced_apart : o ≡ None → None ≡ install_fault tenant x h node s
-    replaced_apart p = rw (← eg, e, ← eo, p)
+    replaced_apart p = rw (← eg, unnamed, ← eo, p)

@@ -1,4 +1,5 @@
 -- What a check says of a record: nothing, or a fault with its kind and evidence.
+use Rattle.std.specs.Option.{is_some}
 use Rattle.std.specs.Prelude.{◌≡◌, Bool, true, false, List, [], ◌∷◌, ℕ, ◌≤◌, get_or, Option, None, Some}
 use Rattle.rules.specs.declared.Fault.{Fault}
 use Rattle.rules.specs.declared.Evidence.{Evidence}
@@ -19,8 +20,7 @@ abbrev pub fault : ℕ → List ℕ → Case
 fault kind ns = fault_with kind (evidence ns)
 
 abbrev pub is_fault : Case → Bool
-is_fault None = false
-is_fault (Some f) = true
+is_fault c = is_some c
 
 -- a case that is clear, or whose kind is from 1 to a number
 pub record KindWithin (most : ℕ) (c : Case) : Type 0 where

@@ -1,4 +1,5 @@
 -- The records taken, newest first, and the ways of looking back at them.
+pub use Rattle.std.specs.Option.{is_some}
 use Rattle.std.specs.Prelude.{Bool, true, false, cond, ◌||◌, List, [], ◌∷◌, ℕ, suc, length, eqb, ltb, Option, None, Some}
 use Rattle.record.specs.Named.{Node}
 use Rattle.record.specs.Records.{TraceRecord}
@@ -47,10 +48,6 @@ module _ {A : Type 0} where
   abbrev pub or_else : Option A → Option A → Option A
   or_else (Some a) b = Some a
   or_else None b = b
-
-  abbrev pub is_some : Option A → Bool
-  is_some (Some a) = true
-  is_some None = false
 
   -- there is a value, and it passes
   abbrev pub holds : (A → Bool) → Option A → Bool

@@ -1,4 +1,6 @@
 -- The lowest value of the generation above the index, where there is one, is the fault.
+use Rattle.std.specs.Prelude.{Some}
+use mathlib.Core.Path.{ap}
 use Rattle.rules.specs.Descriptors.{standing}
 use Rattle.history.specs.Logs.{hist}
 use Rattle.descriptors.proofs.Judged.{ahead_none, ahead_some}
@@ -10,4 +12,4 @@ returns-then-n-eq0 c = let a = c.args in λ k. ahead_none a.log.now c.lowest-n.r
 
 pub returns : goal.returns
 returns c = let a = c.args in λ k. ahead_some a.log.now c.lowest-n.result a.range a.index a.generation (standing (hist a.log.now a.count))
-    (c.lowest-n.ensures.1 k) c.if-n-eq0.false c.index_of.ensures c.fault.ensures
+    (c.lowest-n.ensures.1 k) c.if-n-eq0.false c.index_of.ensures (ap Some c.new.ensures)

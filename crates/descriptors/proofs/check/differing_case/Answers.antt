@@ -1,5 +1,6 @@
 -- The same value is no fault; one of a lower generation asks what is ahead; any other is kind 3.
-use mathlib.Core.Path.{sym, ◌∙◌}
+use Rattle.std.specs.Prelude.{Some}
+use mathlib.Core.Path.{ap, sym, ◌∙◌}
 use Prim.Native.Nat.{◌≤◌, ◌<◌}
 use native.Mathlib.Omega.{arith}
 use Rattle.record.specs.Records.{decode}
@@ -29,4 +30,4 @@ returns c =
     let vs = standing (hist args.log.now args.count) in
     let other = sym c.same_held.ensures.answer ∙ c.if-same_held.false in
     let not_lower : stated.d ≤ value.d = omega (arith, c.d.ensures, c.d-2.ensures, c.if-d.false) in
-    λ k. differs_behind value stated args.index vs other not_lower c.a-2.ensures c.fault.ensures
+    λ k. differs_behind value stated args.index vs other not_lower c.a-2.ensures (ap Some c.new.ensures)

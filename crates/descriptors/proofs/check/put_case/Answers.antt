@@ -1,7 +1,8 @@
 -- Against the value that stands at the place, where one does; else it is a new value.
+use Rattle.std.specs.Prelude.{Some}
 use Prim.Native.Nat.{◌+◌, ◌*◌, ◌-◌, ◌≤◌}
 use lib.ListN.{length}
-use mathlib.Core.Path.{sym, ◌∙◌}
+use mathlib.Core.Path.{ap, sym, ◌∙◌}
 use native.Mathlib.Omega.{arith}
 use Rattle.record.specs.Records.{decode}
 use Rattle.rules.specs.Descriptors.{standing}
@@ -48,4 +49,4 @@ returns c =
     let other = sym c.same_held.ensures.answer ∙ c.if-same_held.false in
     λ k role clear.
     let place = place_is x h args.index (standing h) c.a.ensures (c.standing_at-n.ensures.1 k) in
-    put_differs log c.standing_at-n.result x h args.index place role clear c.if-n-eq0.false bytes other c.a-2.ensures c.fault.ensures
+    put_differs log c.standing_at-n.result x h args.index place role clear c.if-n-eq0.false bytes other c.a-2.ensures (ap Some c.new.ensures)

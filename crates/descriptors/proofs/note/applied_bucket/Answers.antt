@@ -7,4 +7,4 @@ pub returns-in_default : goal.returns-in_default
 returns-in_default c = let a = c.args in (rw (sym c.node.ensures ∙ c.in_default.is), omega arith)
 
 pub returns : goal.returns
-returns c = let a = c.args in (c.bucket_by_two.ensures.0 ∙ rw (c.a.ensures, sym c.node.ensures ∙ c.in-Marked.is), c.bucket_by_two.ensures.1)
+returns c = let a = c.args in (c.bucket_by_two.ensures.0 ∙ rw (c.a.ensures, sym c.node.ensures ∙ c.in-Some.is), c.bucket_by_two.ensures.1)

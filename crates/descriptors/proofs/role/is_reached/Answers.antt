@@ -10,5 +10,5 @@ returns-in_default c = let a = c.args in λ k. rw (sym c.node.ensures ∙ c.in_d
 pub returns : goal.returns
 unfolding reached
 returns c = let a = c.args in λ k.
-    rw (sym c.node.ensures ∙ c.in-Marked.is)
+    rw (sym c.node.ensures ∙ c.in-Some.is)
     (c.at_least.ensures ∙ rw (c.c.ensures, c.applied_of.ensures k, c.a.ensures))

@@ -1,4 +1,5 @@
 -- No earlier write of the key; or the last one, which decides while there was no fault.
+use Rattle.std.specs.Prelude.{Some}
 use mathlib.Core.Path.{sym, ap, ◌∙◌}
 use native.Mathlib.Omega.{arith}
 use Rattle.record.specs.Keys.{Key}
@@ -38,7 +39,7 @@ returns-then-is_against c =
     c.requires.0.within
     k)
     (sym c.is_against.ensures ∙ c.if-is_against.true)
-    c.fault_of.ensures
+    (ap Some c.new.ensures)
 
 pub returns : goal.returns
 returns c =

@@ -2,9 +2,9 @@
 use Rattle.generations_rise.specs.Answers.{found_generation}
 use Rattle.generations_rise.proofs.write.generation_of.Goals as goal
 
-pub returns-in-Nothing : goal.returns-in-Nothing
+pub returns-in-None : goal.returns-in-None
 unfolding found_generation
-returns-in-Nothing c = rw c.in-Nothing.is
+returns-in-None c = rw c.in-None.is
 
-pub returns-in-At : goal.returns-in-At
-returns-in-At c = rw c.in-At.is c.generation_at.ensures
+pub returns-in-Some : goal.returns-in-Some
+returns-in-Some c = rw c.in-Some.is c.generation_at.ensures

@@ -1,5 +1,6 @@
 -- Empty; above the greatest last; or what the walk found.
-use mathlib.Core.Path.{◌∙◌}
+use Rattle.std.specs.Prelude.{Some}
+use mathlib.Core.Path.{ap, ◌∙◌}
 use native.Mathlib.Omega.{arith}
 use Rattle.record.specs.Records.{decode}
 use Rattle.rules.specs.IdsUnique.{grant_by}
@@ -12,7 +13,7 @@ returns-then-last-first c =
     c.e-last.ensures
     c.if-last-first.true
     c.b.ensures
-    c.fault_of.ensures
+    (ap Some c.new.ensures)
 
 pub returns-then-greatest_last-first : goal.returns-then-greatest_last-first
 returns-then-greatest_last-first c =
@@ -24,7 +25,7 @@ returns-then-greatest_last-first c =
 pub returns-then-s : goal.returns-then-s
 returns-then-s c =
     let g = grant_by (decode c.args.rec.now) in
-    λ k. shared_fault_lem g _ c.if-s.true c.b-then-s.ensures c.fault_of-then-s.ensures
+    λ k. shared_fault_lem g _ c.if-s.true c.b-then-s.ensures (ap Some c.new-then-s.ensures)
     ∙ walk_case g _ c.d-first.ensures c.e-last.ensures c.if-last-first.false (c.shared_with-s.ensures k)
 
 pub returns : goal.returns

@@ -15,6 +15,7 @@ returns-then-old_index-index c = rw (
 
 pub returns-then-generation-old_generation : goal.returns-then-generation-old_generation
 returns-then-generation-old_generation c = rw (
+  c.new.ensures,
   ← c.b-index.ensures,
   ← c.d-generation.ensures,
   ← c.b-old_index.ensures,
@@ -26,6 +27,7 @@ returns-then-generation-old_generation c = rw (
 
 pub returns-then-old_generation-generation : goal.returns-then-old_generation-generation
 returns-then-old_generation-generation c = rw (
+  c.new-then-old_generation-generation.ensures,
   ← c.b-index.ensures,
   ← c.d-generation.ensures,
   ← c.b-old_index.ensures,

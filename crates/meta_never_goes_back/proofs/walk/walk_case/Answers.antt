@@ -48,12 +48,12 @@ walk-smaller c = above_falls c.loop-i.invariant.up c.loop-i.invariant.mem
 pub walk-preserved : goal.walk-preserved
 walk-preserved c = λ m. walked_on (c.walk.invariant m) (seen_stand
     (c.loop-i.invariant.seen m) c.if-i-eq0.true) c.key_case-case.ensures c.loop-i.invariant.up (seen_gap (c.loop-i.invariant.seen m) c.if-i-eq0.true)
-    (sym c.is_fault.ensures ∙ c.if-is_fault.false)
+    (sym c.is_some.ensures ∙ c.if-is_some.false)
 
 pub returns-then-not-key_less : goal.returns-then-not-key_less
 returns-then-not-key_less c = λ m. walked_end (c.walk.invariant m) c.end_of-end.ensures (record { is = sym c.key_less.ensures ∙ c.if-not-key_less.true }) refl
 
-pub returns-then-is_fault : goal.returns-then-is_fault
-returns-then-is_fault c = λ m. walked_at (c.walk.invariant m)
+pub returns-then-is_some : goal.returns-then-is_some
+returns-then-is_some c = λ m. walked_at (c.walk.invariant m)
     (seen_stand (c.loop-i.invariant.seen m) c.if-i-eq0.true) c.key_case-case.ensures c.end_of-end.ensures
-    (record { is = sym c.key_less.ensures ∙ c.if-not-key_less.false }) (sym c.is_fault.ensures ∙ c.if-is_fault.true)
+    (record { is = sym c.key_less.ensures ∙ c.if-not-key_less.false }) (sym c.is_some.ensures ∙ c.if-is_some.true)

@@ -22,7 +22,7 @@ returns-then-kind-ne8 c =
     let a = c.args in
     let x = decode a.rec.now in
     let h = hist a.log.now a.count in
-    λ ix. install_other x h (sym c.node-marked.ensures ∙ c.in-Marked.is) a.tenant
+    λ ix. install_other x h (sym c.node-marked.ensures ∙ c.in-Some.is) a.tenant
     (ne_eqb x.kind 8 (λ e. c.if-kind-ne8.true (c.kind.ensures ∙ e)))
 
 pub loop-k-init : goal.loop-k-init
@@ -34,20 +34,20 @@ loop-k-init c =
       c.span_count-n.ensures.0,
       c.span_count-n.ensures.1,
       λ ix. install_spans x h (sym c.node-marked.ensures
-          ∙ c.in-Marked.is) a.tenant (eq-eqb x.kind 8 (sym c.kind.ensures ∙ c.if-kind-ne8.false)),
+          ∙ c.in-Some.is) a.tenant (eq-eqb x.kind 8 (sym c.kind.ensures ∙ c.if-kind-ne8.false)),
     )
 
-pub returns-then-is_fault : goal.returns-then-is_fault
-returns-then-is_fault c =
+pub returns-then-is_some : goal.returns-then-is_some
+returns-then-is_some c =
     let a = c.args in
     let x = decode a.rec.now in
     let h = hist a.log.now a.count in
     let l = c.loop-k in
-    let f = install_fault a.tenant x h c.in-Marked.node.0 in
+    let f = install_fault a.tenant x h c.in-Some.node.0 in
     λ ix.
     let e = c.replaced_case-c.ensures ix in
     e ∙ sym (l.invariant.3 ix ∙ first_hit x l.k f (omega (arith, l.invariant.1))
-    (sym (ap (λ (z : Case). is_fault z) e) ∙ sym c.is_fault.ensures ∙ c.if-is_fault.true))
+    (sym (ap (λ (z : Case). is_fault z) e) ∙ sym c.is_some.ensures ∙ c.if-is_some.true))
 
 pub loop-k-smaller : goal.loop-k-smaller
 loop-k-smaller c = omega arith
@@ -58,14 +58,14 @@ loop-k-preserved c =
     let x = decode a.rec.now in
     let h = hist a.log.now a.count in
     let l = c.loop-k in
-    let f = install_fault a.tenant x h c.in-Marked.node.0 in (
+    let f = install_fault a.tenant x h c.in-Some.node.0 in (
       omega arith,
       l.invariant.1,
       l.invariant.2,
       λ ix.
           let e = c.replaced_case-c.ensures ix in
           l.invariant.3 ix ∙ first_miss x l.k f (omega (arith, l.invariant.1))
-          (sym (ap (λ (z : Case). is_fault z) e) ∙ sym c.is_fault.ensures ∙ c.if-is_fault.false),
+          (sym (ap (λ (z : Case). is_fault z) e) ∙ sym c.is_some.ensures ∙ c.if-is_some.false),
     )
 
 pub returns : goal.returns
@@ -74,5 +74,5 @@ returns c =
     let x = decode a.rec.now in
     let h = hist a.log.now a.count in
     let l = c.loop-k in
-    λ ix. sym (l.invariant.3 ix ∙ first_end x l.k (install_fault a.tenant x h c.in-Marked.node.0)
+    λ ix. sym (l.invariant.3 ix ∙ first_end x l.k (install_fault a.tenant x h c.in-Some.node.0)
     (omega (arith, l.invariant.1)))

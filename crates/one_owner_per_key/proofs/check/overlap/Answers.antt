@@ -1,8 +1,8 @@
 -- Without a node nothing; kinds 1 and 2 by the lowest other range that is met.
 use mathlib.Core.Path.{sym, ap, ◌∙◌}
+use Rattle.std.specs.Prelude.{Some}
 use Rattle.record.specs.Records.{decode}
 use Rattle.history.specs.Logs.{hist}
-use Rattle.one_owner_per_key.specs.Answers.{range_in}
 use Rattle.rules.proofs.Owners.{overlap_unmarked, overlap_other, overlap_met, overlap_apart}
 use Rattle.one_owner_per_key.proofs.check.overlap.Goals as goal
 
@@ -18,29 +18,17 @@ returns-then-not-is_holding c =
     let a = c.args in
     let x = decode a.rec.now in
     let h = hist a.log.now a.count in
-    λ ix. overlap_other x h (sym c.node-marked.ensures ∙ c.in-Marked.is)
+    λ ix. overlap_other x h (sym c.node-marked.ensures ∙ c.in-Some.is)
     (sym c.is_holding.ensures ∙ c.if-not-is_holding.true)
 
-pub returns-in-Range : goal.returns-in-Range
-returns-in-Range c =
+pub returns-in_err-other : goal.returns-in_err-other
+returns-in_err-other c =
     let a = c.args in
-    let x = decode a.rec.now in
-    let h = hist a.log.now a.count in
-    λ ix. c.fault_of.ensures ∙ overlap_met x h (sym
-    c.node-marked.ensures
-    ∙ c.in-Marked.is)
-    (sym c.is_holding.ensures
-    ∙ c.if-not-is_holding.false)
-    c.a-range.ensures (c.lowest_meeting-met.ensures ix)
-    (ap range_in c.in-Range.is)
+    λ ix. c.from_residual.ensures ∙ overlap_apart (decode a.rec.now) (hist a.log.now a.count) (sym c.node-marked.ensures ∙ c.in-Some.is)
+    (sym c.is_holding.ensures ∙ c.if-not-is_holding.false) c.a-range.ensures (c.lowest_meeting.ensures ix) c.in_err-other.was
 
-pub returns-in-Apart : goal.returns-in-Apart
-returns-in-Apart c =
+pub returns : goal.returns
+returns c =
     let a = c.args in
-    let x = decode a.rec.now in
-    let h = hist a.log.now a.count in
-    λ ix. overlap_apart x h (sym c.node-marked.ensures
-    ∙ c.in-Marked.is)
-    (sym c.is_holding.ensures
-    ∙ c.if-not-is_holding.false)
-    c.a-range.ensures (c.lowest_meeting-met.ensures ix) (ap range_in c.in-Apart.is)
+    λ ix. ap Some c.new.ensures ∙ overlap_met (decode a.rec.now) (hist a.log.now a.count) (sym c.node-marked.ensures ∙ c.in-Some.is)
+    (sym c.is_holding.ensures ∙ c.if-not-is_holding.false) c.a-range.ensures (c.lowest_meeting.ensures ix) c.in_ok-other.was

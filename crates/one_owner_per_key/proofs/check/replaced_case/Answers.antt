@@ -1,41 +1,29 @@
 -- A span that names a group is no keyspace span; another by the lowest range that is met.
-use mathlib.Core.Path.{ap, ◌∙◌}
+use mathlib.Core.Path.{sym, ap, ◌∙◌}
+use Rattle.std.specs.Prelude.{Some}
 use Rattle.record.specs.Records.{decode}
 use Rattle.history.specs.Logs.{hist}
 use Rattle.rules.specs.Descriptors.{span_of}
 use Rattle.rules.specs.OneOwnerPerKey.{group_of}
-use Rattle.one_owner_per_key.specs.Answers.{group_in, range_in}
 use Rattle.rules.proofs.Owners.{replaced_named, replaced_met, replaced_apart}
 use Rattle.one_owner_per_key.proofs.check.replaced_case.Goals as goal
 
-pub returns-in-Named : goal.returns-in-Named
-returns-in-Named c =
+pub returns-then-is_some : goal.returns-then-is_some
+returns-then-is_some c =
     let a = c.args in
-    let x = decode a.rec.now in
-    let h = hist a.log.now a.count in
-    let s = span_of a.k x in
-    λ ix. replaced_named a.tenant x h a.node.0 s
-    (c.group_of-named.ensures ∙ ap (group_of a.tenant) c.start_of.ensures) (ap group_in c.in-Named.is)
+    λ ix. replaced_named a.tenant (decode a.rec.now) (hist a.log.now a.count) a.node.0 (span_of a.k (decode a.rec.now))
+    (c.group_of.ensures ∙ ap (group_of a.tenant) c.start_of.ensures) (sym c.is_some.ensures ∙ c.if-is_some.true)
 
-pub returns-in-Range : goal.returns-in-Range
-returns-in-Range c =
+pub returns-in_err-range : goal.returns-in_err-range
+returns-in_err-range c =
     let a = c.args in
-    let x = decode a.rec.now in
-    let h = hist a.log.now a.count in
-    let s = span_of a.k x in
-    λ ix. c.fault_of.ensures ∙ replaced_met a.tenant x h a.node.0 s
-    (c.group_of-named.ensures
-    ∙ ap (group_of a.tenant) c.start_of.ensures)
-    (ap group_in c.in_default.is) (c.lowest_meeting-met.ensures ix)
-    (ap range_in c.in-Range.is)
+    λ ix. c.from_residual.ensures ∙ replaced_apart a.tenant (decode a.rec.now) (hist a.log.now a.count) a.node.0 (span_of a.k (decode a.rec.now))
+    (c.group_of.ensures ∙ ap (group_of a.tenant) c.start_of.ensures) (sym c.is_some.ensures ∙ c.if-is_some.false)
+    (c.lowest_meeting.ensures ix) c.in_err-range.was
 
-pub returns-in-Apart : goal.returns-in-Apart
-returns-in-Apart c =
+pub returns : goal.returns
+returns c =
     let a = c.args in
-    let x = decode a.rec.now in
-    let h = hist a.log.now a.count in
-    let s = span_of a.k x in
-    λ ix. replaced_apart a.tenant x h a.node.0 s
-    (c.group_of-named.ensures
-    ∙ ap (group_of a.tenant) c.start_of.ensures)
-    (ap group_in c.in_default.is) (c.lowest_meeting-met.ensures ix) (ap range_in c.in-Apart.is)
+    λ ix. ap Some c.new.ensures ∙ replaced_met a.tenant (decode a.rec.now) (hist a.log.now a.count) a.node.0 (span_of a.k (decode a.rec.now))
+    (c.group_of.ensures ∙ ap (group_of a.tenant) c.start_of.ensures) (sym c.is_some.ensures ∙ c.if-is_some.false)
+    (c.lowest_meeting.ensures ix) c.in_ok-range.was

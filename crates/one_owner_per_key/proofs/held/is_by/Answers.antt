@@ -8,4 +8,4 @@ returns-in_default c = sym (ap (by_node c.args.node.0) (sym c.node-marked.ensure
 
 pub returns : goal.returns
 returns c = let a = c.args in
-    sym (ap (by_node a.node.0) (sym c.node-marked.ensures ∙ c.in-Marked.is))
+    sym (ap (by_node a.node.0) (sym c.node-marked.ensures ∙ c.in-Some.is))

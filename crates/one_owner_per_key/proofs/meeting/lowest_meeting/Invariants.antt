@@ -4,7 +4,7 @@ use Rattle.record.specs.Records.{decode}
 use Rattle.rules.specs.Descriptors.{span_of}
 use Rattle.history.specs.Logs.{hist}
 use Rattle.one_owner_per_key.specs.Columns.{OwnersIndexed}
-use Rattle.one_owner_per_key.specs.Answers.{range_in, passes}
+use Rattle.one_owner_per_key.specs.Answers.{passes}
 use Rattle.one_owner_per_key.proofs.Meets.{met, Walked}
 use Rattle.one_owner_per_key.proofs.meeting.lowest_meeting.Given as goal
 
@@ -12,7 +12,7 @@ abbrev pub invariant-loop-i : goal.invariant-loop-i
 invariant-loop-i l =
     (l.i ≤ l.count) × (OwnersIndexed l.cap (hist l.log l.count) l.work
     → Walked (met (passes l.others (decode l.rec).spans) (span_of l.k (decode l.rec)) l.node.0 (hist l.log l.count)) l.node.0 l.log l.ended l.i
-    (range_in l.best))
+    l.best)
 
 abbrev pub decreases-loop-i : goal.decreases-loop-i
 decreases-loop-i l = l.i

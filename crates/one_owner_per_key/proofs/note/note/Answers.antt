@@ -32,8 +32,8 @@ returns c =
     let p =
     c.requires in
     noted_marked a.cap (hist a.log.now a.count) (decode a.rec.now)
-    c.in-Marked.node
-    (sym c.node-marked.ensures ∙ c.in-Marked.is)
+    c.in-Some.node
+    (sym c.node-marked.ensures ∙ c.in-Some.is)
     (hist_length a.log.now a.count) p.1.0
     c.enter_hold.ensures
     c.node_bucket.ensures

@@ -20,8 +20,8 @@ returns-then-kind-eq5 c =
     let a = c.args in
     let x = decode a.rec.now in
     let h = hist a.log.now a.count in
-    let node = c.in-Marked.node in
-    let m = sym c.node-marked.ensures ∙ c.in-Marked.is in
+    let node = c.in-Some.node in
+    let m = sym c.node-marked.ensures ∙ c.in-Some.is in
     λ ix. half_restated x h node m (eq-eqb x.kind 5 (sym c.kind-kind.ensures ∙ c.if-kind-eq5.true)) (c.restated_case.ensures ix)
 
 pub returns-then-kind-eq3 : goal.returns-then-kind-eq3
@@ -29,8 +29,8 @@ returns-then-kind-eq3 c =
     let a = c.args in
     let x = decode a.rec.now in
     let h = hist a.log.now a.count in
-    let node = c.in-Marked.node in
-    let m = sym c.node-marked.ensures ∙ c.in-Marked.is in
+    let node = c.in-Some.node in
+    let m = sym c.node-marked.ensures ∙ c.in-Some.is in
     λ ix. c.applied_case.ensures ix m (eq-eqb x.kind 3 (sym c.kind-kind.ensures ∙ c.if-kind-eq3.true))
 
 pub returns-then-kind : goal.returns-then-kind
@@ -38,10 +38,10 @@ returns-then-kind c =
     let a = c.args in
     let x = decode a.rec.now in
     let h = hist a.log.now a.count in
-    let node = c.in-Marked.node in
+    let node = c.in-Some.node in
     let m =
     sym c.node-marked.ensures
-    ∙ c.in-Marked.is in
+    ∙ c.in-Some.is in
     λ ix. half_registering x h node m (ne_eqb x.kind 5
     (λ z. c.if-kind-eq5.false (c.kind-kind.ensures ∙ z)))
     (ne_eqb x.kind 3 (λ z. c.if-kind-eq3.false (c.kind-kind.ensures ∙ z))) (c.registered_case.ensures ix m)
@@ -51,8 +51,8 @@ returns c =
     let a = c.args in
     let x = decode a.rec.now in
     let h = hist a.log.now a.count in
-    let node = c.in-Marked.node in
-    let m = sym c.node-marked.ensures ∙ c.in-Marked.is in
+    let node = c.in-Some.node in
+    let m = sym c.node-marked.ensures ∙ c.in-Some.is in
     λ ix. half_other x h node m (ne_eqb x.kind 5 (λ z. c.if-kind-eq5.false (c.kind-kind.ensures ∙ z)))
     (ne_eqb x.kind 3 (λ z. c.if-kind-eq3.false (c.kind-kind.ensures ∙ z)))
     (ap (λ (j : ℕ). eqb j 1 || eqb j 2) (sym c.kind-kind.ensures) ∙ c.if-kind.false)

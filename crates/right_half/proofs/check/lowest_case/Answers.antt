@@ -1,17 +1,16 @@
 -- By whether there is one.
-use mathlib.Core.Path.{sym, ap, ◌∙◌}
+use mathlib.Core.Path.{sym, ◌∙◌}
 use Rattle.history.specs.Logs.{hist}
-use Rattle.right_half.specs.Answers.{found_in}
 use Rattle.rules.proofs.Missing.{missing_none, missing_some}
 use Rattle.right_half.proofs.check.lowest_case.Goals as goal
 
-pub returns-in-At : goal.returns-in-At
-returns-in-At c =
+pub returns : goal.returns
+returns c =
     let a = c.args in
-    λ ix e. missing_some a.kind a.node.0 (hist a.log.now a.count) (ap found_in (sym c.in-At.is) ∙ e)
+    λ ix e. missing_some a.kind a.node.0 (hist a.log.now a.count) (sym c.in_ok-right.was ∙ e)
     (c.missing_case.ensures ix)
 
-pub returns-in-Nothing : goal.returns-in-Nothing
-returns-in-Nothing c =
+pub returns-in_err-right : goal.returns-in_err-right
+returns-in_err-right c =
     let a = c.args in
-    λ ix e. missing_none a.kind a.node.0 (hist a.log.now a.count) (ap found_in (sym c.in-Nothing.is) ∙ e)
+    λ ix e. c.from_residual.ensures ∙ missing_none a.kind a.node.0 (hist a.log.now a.count) (sym c.in_err-right.was ∙ e)

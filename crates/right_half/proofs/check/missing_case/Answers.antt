@@ -1,4 +1,6 @@
 -- The record that registered the split of its debt has the parent and the index.
+use mathlib.Core.Path.{ap}
+use Rattle.std.specs.Prelude.{Some}
 use native.Mathlib.Omega.{arith}
 use Prim.Native.Nat.{◌-◌}
 use Rattle.history.proofs.Logs.{record_bytes, record_length}
@@ -26,4 +28,4 @@ returns c =
     λ ix s e. debt_fault a.log.now s (c.debt_of-k.ensures.owed ix s e)
     c.if-k-eq0.false
     (record_bytes a.log.now (c.debt_of-k.result - 1)
-    c.record_at-found.ensures) c.parent_of.ensures c.b.ensures c.fault_of.ensures
+    c.record_at-found.ensures) c.parent_of.ensures c.b.ensures (ap Some c.new.ensures)

@@ -1,8 +1,8 @@
 -- The lowest node that lacks the right range of the split that the record registers, if there is one.
 use mathlib.Core.Path.{sym, ap, ◌∙◌}
+use Rattle.std.specs.Prelude.{Some}
 use Rattle.record.specs.Records.{decode}
 use Rattle.splits.specs.Splits.{split_with}
-use Rattle.right_half.specs.Answers.{found_in}
 use Rattle.right_half.proofs.Registering.{unregistered_clear, found_fault, none_clear}
 use Rattle.splits.proofs.Registered.{named_split, right_range}
 use Rattle.right_half.proofs.check.registering_case.Goals as goal
@@ -19,11 +19,11 @@ b-index-requires c = c.requires.1
 pub right_of-right-requires : goal.right_of-right-requires
 right_of-right-requires c = (c.requires.0.log_holds, c.requires.1)
 
-pub lowest_lacking-lowest-requires : goal.lowest_lacking-lowest-requires
-lowest_lacking-lowest-requires c = c.requires
+pub lowest_lacking-requires : goal.lowest_lacking-requires
+lowest_lacking-requires c = c.requires
 
-pub returns-in-At : goal.returns-in-At
-returns-in-At c =
+pub returns : goal.returns
+returns c =
     let a = c.args in
     let x = decode a.rec.now in
     λ ix e.
@@ -32,21 +32,21 @@ returns-in-At c =
     c.right_of-right.ensures
     (right_range a.log.now a.count x e c.if-named-eq0.false) in
     found_fault a.log.now a.count x e c.if-named-eq0.false
-    c.in-At.node c.parent_of-parent.ensures
+    c.in_ok-node.node c.parent_of-parent.ensures
     c.b-index.ensures r
-    (ap found_in (sym c.in-At.is)
-    ∙ c.lowest_lacking-lowest.ensures ix (split_with a.log.now x a.named) s
+    (sym c.in_ok-node.was
+    ∙ c.lowest_lacking.ensures ix (split_with a.log.now x a.named) s
     c.parent_of-parent.ensures c.b-index.ensures r)
-    c.fault_of.ensures
+    (ap Some c.new.ensures)
 
-pub returns-in-Nothing : goal.returns-in-Nothing
-returns-in-Nothing c =
+pub returns-in_err-node : goal.returns-in_err-node
+returns-in_err-node c =
     let a = c.args in
     let x = decode a.rec.now in
     λ ix e.
     let s = named_split a.log.now a.count x e c.if-named-eq0.false in
     let r =
     c.right_of-right.ensures (right_range a.log.now a.count x e c.if-named-eq0.false) in
-    none_clear a.log.now a.count x e c.if-named-eq0.false
-    (ap found_in (sym c.in-Nothing.is) ∙ c.lowest_lacking-lowest.ensures ix (split_with a.log.now x a.named) s
+    c.from_residual.ensures ∙ none_clear a.log.now a.count x e c.if-named-eq0.false
+    (sym c.in_err-node.was ∙ c.lowest_lacking.ensures ix (split_with a.log.now x a.named) s
     c.parent_of-parent.ensures c.b-index.ensures r)

@@ -1,5 +1,6 @@
 -- The split's own right range, or what was missing before.
-use mathlib.Core.Path.{◌∙◌}
+use Rattle.std.specs.Prelude.{Some}
+use mathlib.Core.Path.{ap, ◌∙◌}
 use native.Mathlib.Omega.{arith}
 use Prim.Native.Nat.{◌-◌}
 use Rattle.record.specs.Records.{decode}
@@ -40,7 +41,7 @@ returns-then-is_lowest c =
     taken_own a.log.now a.count w a.node.0 b t y m
     (c.right_of-right.ensures (taken_range a.log.now a.count w l.0 l.1 y m))
     (c.lowest_missing-lowest.ensures ix) (c.is_lowest.ensures ix)
-    c.if-is_lowest.true (c.fault_of.ensures ∙ rw (c.a.ensures, c.b.ensures))
+    c.if-is_lowest.true (ap Some c.new.ensures ∙ rw (c.a.ensures, c.b.ensures))
 
 pub returns : goal.returns
 returns c =

@@ -9,7 +9,7 @@ use Rattle.history.specs.Logs.{hist}
 use Rattle.history.proofs.Logs.{record_bytes, record_length}
 use Rattle.one_owner_per_key.proofs.Walks.{bucket_below}
 use Rattle.splits.specs.Columns.{recorded_bucket, by_recording}
-use Rattle.right_half.specs.Answers.{found_in, lowered_by}
+use Rattle.right_half.specs.Answers.{lowered_by}
 use Rattle.right_half.proofs.Lowering.{lower_first, lower_next, lower_end, lacking_met}
 use Rattle.right_half.proofs.lacking.lowest_lacking.Goals as goal
 
@@ -60,7 +60,7 @@ loop-i-preserved c =
           (lacks s (decode a.rec.now) (hist a.log.now a.count)) ix.1.recordings p.within c.loop-i-test.true
           l.invariant.0 (l.invariant.1 ix s r ep ei er)
           (c.lowered_by-best.ensures ix s r ep ei er
-          ∙ ap (λ (z : TraceRecord). lowered_by (lacks s (decode a.rec.now) (hist a.log.now a.count)) z.node (found_in l.best))
+          ∙ ap (λ (z : TraceRecord). lowered_by (lacks s (decode a.rec.now) (hist a.log.now a.count)) z.node l.best)
           (record_bytes a.log.now (l.i - 1) c.record_at.ensures))
           refl c.recorded_below-i.ensures.1,
     )

@@ -6,7 +6,6 @@ use Rattle.record.specs.Records.{decode}
 use Rattle.rules.specs.RightHalf.{Registered, registers, lacks}
 use Rattle.history.specs.Logs.{hist}
 use Rattle.splits.specs.Columns.{Known, recorded_bucket, by_recording}
-use Rattle.right_half.specs.Answers.{found_in}
 use Rattle.right_half.proofs.Lowering.{Lowering}
 use Rattle.right_half.proofs.lacking.lowest_lacking.Given as goal
 
@@ -15,7 +14,7 @@ invariant-loop-i l =
     (l.i ≤ l.count) × (Known l.cap (hist l.log l.count) l.work → (s : Registered) → registers (decode l.rec) (hist l.log l.count) ≡ Some s → l.parent
     ≡ s.parent → l.index
     ≡ s.index → l.right ≡ s.right → Lowering (by_recording l.cap) (recorded_bucket l.cap l.parent) l.log l.count
-    (lacks s (decode l.rec) (hist l.log l.count)) l.i (found_in l.best))
+    (lacks s (decode l.rec) (hist l.log l.count)) l.i l.best)
 
 abbrev pub decreases-loop-i : goal.decreases-loop-i
 decreases-loop-i l = l.i

@@ -2,13 +2,12 @@
 use Prim.Native.Nat.{◌≤◌}
 use Rattle.history.specs.Logs.{hist}
 use Rattle.splits.specs.Columns.{Known}
-use Rattle.right_half.specs.Answers.{found_in}
 use Rattle.right_half.proofs.Searches.{Searching}
 use Rattle.right_half.proofs.missing.lowest_missing.Given as goal
 
 abbrev pub invariant-loop-i : goal.invariant-loop-i
 invariant-loop-i l =
-    (l.i ≤ l.count) × (Known l.cap (hist l.log l.count) l.work → Searching l.log l.count l.node.0 l.i (found_in l.best))
+    (l.i ≤ l.count) × (Known l.cap (hist l.log l.count) l.work → Searching l.log l.count l.node.0 l.i l.best)
 
 abbrev pub decreases-loop-i : goal.decreases-loop-i
 decreases-loop-i l = l.i

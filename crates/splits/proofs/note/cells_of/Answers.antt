@@ -49,10 +49,10 @@ returns c =
     let p = c.requires.0 in
     let x = decode a.rec.now in
     let h = hist a.log.now a.count in
-    let m = c.in-Marked.node in
+    let m = c.in-Some.node in
     let e =
     sym c.node-marked.ensures
-    ∙ c.in-Marked.is in
+    ∙ c.in-Some.is in
     let b = by_itself m x e in
     λ ix.
     let q = c.latest_of-last.ensures.latest ix.0 in

@@ -19,25 +19,25 @@ returns-then-cap-eq0 c =
     looked_as u.ensures.1
     (looked_none a.question u.result.judge a.log.now a.work.now a.out.now e c.if-cap-eq0.true c.of_none-then-cap-eq0.ensures)
 
-pub answer-found-requires : goal.answer-found-requires
-answer-found-requires c =
+pub answer-requires : goal.answer-requires
+answer-requires c =
     let a = c.args in
     let u = c.suits-suiting in
     let e = lends_by a.self a.log.now a.work.now u.ensures.0 u.ensures.1 (not-false u.result.holds c.if-not-suiting.false) in
     bounded (suiting e) c.if-cap-eq0.false
 
-pub returns-in-TooShort : goal.returns-in-TooShort
-returns-in-TooShort c =
+pub returns-in_default : goal.returns-in_default
+returns-in_default c =
     let a = c.args in
     let u = c.suits-suiting in
     let e = lends_by a.self a.log.now a.work.now u.ensures.0 u.ensures.1 (not-false u.result.holds c.if-not-suiting.false) in
     looked_as u.ensures.1
-    (looked_short a.question u.result.judge a.log.now a.work.now a.out.now e c.answer-found.ensures c.in-TooShort.is)
+    (looked_short a.question u.result.judge a.log.now a.work.now a.out.now e c.answer.ensures c.in_default.is)
 
-pub returns-in-All : goal.returns-in-All
-returns-in-All c =
+pub returns : goal.returns
+returns c =
     let a = c.args in
     let u = c.suits-suiting in
     let e = lends_by a.self a.log.now a.work.now u.ensures.0 u.ensures.1 (not-false u.result.holds c.if-not-suiting.false) in
     looked_as u.ensures.1
-    (looked_given a.question u.result.judge a.log.now a.work.now a.out.now e c.answer-found.ensures c.in-All.is)
+    (looked_given a.question u.result.judge a.log.now a.work.now a.out.now e c.answer.ensures c.in-Some.is)
