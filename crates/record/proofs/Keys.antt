@@ -3,20 +3,19 @@ use mathlib.Core.Path.{◌≡◌, refl, sym, ap, ◌∙◌}
 use mathlib.Core.Bool.{Bool, true, false, ◌&&◌}
 use mathlib.Core.List.{List, [], ◌∷◌}
 use mathlib.Core.Logic.{◌⊎◌, inl, inr, ⊎_elim}
-use Prim.Native.Nat.{ℕ, zero, suc, ◌+◌, ◌-◌, ◌≤◌, ◌<◌, min}
+use Prim.Native.Nat.{ℕ, ◌+◌, ◌-◌, ◌≤◌, ◌<◌}
 use native.Mathlib.Omega.{arith}
 use native.Mathlib.Decide.{dec_lt}
-use lib.Dec.{eqb, leb, ltb}
-use lib.ListN.{length, get_or, take, drop, length-take, length-drop, drop_of_length-le}
+use lib.Dec.{eqb}
+use lib.ListN.{length, get_or, take, drop, length-take, length-drop}
 use lib.Seq.{take_all, ext_get_or}
-use borrow.Author.Count.{below_none, below_more}
-use borrow.Author.Tests.{lt-ltb, le-ltb, le-leb, lt-leb, eq-eqb, eqb-true, eqb-false}
+use borrow.Author.Tests.{lt-ltb, le-ltb, eq-eqb, ne_eqb, eqb-true}
+use Rattle.std.proofs.Common.{nat_eq}
+use Rattle.std.specs.Cmp.Lexicographic.{slice_cmp, pointwise}
+use Rattle.std.specs.Ordering.{nat_cmp, is_lt}
 use Rattle.record.specs.Limits.{key_size, key_limit}
-use Rattle.record.specs.Numbers.{number64}
 use Rattle.record.specs.Keys.{Key, key_in, key_ltb, list_eqb, Lt, Le}
 use Rattle.record.proofs.Booleans.{decide, never, and_left, and_right}
-use Rattle.record.proofs.Numbers.{Bytes, number_same}
-use Rattle.record.proofs.Lists.{drop_step}
 
 -- ---- the key in its place
 
@@ -65,6 +64,14 @@ list_eqb_equal xs ys e = ap (list_eqb xs) (sym e) ∙ list_eqb_refl xs
 pub list_eqb_differ : (xs ys : List ℕ) → (xs ≡ ys → ⊥) → list_eqb xs ys ≡ false
 list_eqb_differ xs ys h = ⊎_elim (λ p. absurd (h (list_eqb_same xs ys p))) (λ p. p) (decide (list_eqb xs ys))
 
+-- and it is that of std's lists
+pub same_is : (xs ys : List ℕ) → pointwise nat_eq xs ys ≡ list_eqb xs ys
+unfolding list_eqb
+same_is [] [] = refl
+same_is [] (y ∷ ys) = refl
+same_is (x ∷ xs) [] = refl
+same_is (x ∷ xs) (y ∷ ys) = ap (λ (t : Bool). eqb x y && t) (same_is xs ys)
+
 -- two lists differ by their lengths, or at a place; they are equal where every place has been passed
 pub differ_length : (xs ys : List ℕ) → (length xs ≡ length ys → ⊥) → list_eqb xs ys ≡ false
 differ_length xs ys h = list_eqb_differ xs ys (λ e. h (ap length e))
@@ -75,70 +82,6 @@ differ_at xs ys i h = list_eqb_differ xs ys (λ e. h (ap (λ (l : List ℕ). get
 pub equal_all : (xs ys : List ℕ) (i : ℕ) → length xs ≡ length ys → length xs ≤ i → ((k : ℕ) → k < i → get_or xs k 0 ≡ get_or ys k 0)
     → list_eqb xs ys ≡ true
 equal_all xs ys i e m h = list_eqb_equal xs ys (ext_get_or 0 xs ys e (λ k l. h k (omega arith)))
-
--- two lists of one length that begin alike up to i, and differ there where they go on
-pub equal_alike : (xs ys : List ℕ) (i : ℕ) → length xs ≡ length ys → ((k : ℕ) → k < i → get_or xs k 0 ≡ get_or ys k 0)
-    → (i < length xs → i < length ys → get_or xs i 0 ≡ get_or ys i 0 → ⊥) → leb (length xs) i ≡ list_eqb xs ys
-equal_alike xs ys i e s d = elim (dec_lt i (length xs)) [
-  | yes l ↦ lt-leb _ _ l ∙ sym (differ_at xs ys i (d l (omega arith)))
-  | no l ↦ le-leb (length xs) i (omega arith) ∙ sym (equal_all xs ys i e (omega arith) s)
-]
-
--- a loop that compares has come to i, of the n places that both lists have: all before were alike
-pub record Alike (xs ys : List ℕ) (n i : ℕ) : Type 0 where
-  pub shorter : n ≡ min (length xs) (length ys)
-  pub within : i ≤ n
-  pub same : (k : ℕ) → k < i → get_or xs k 0 ≡ get_or ys k 0
-
-pub alike_start : (xs ys : List ℕ) (n : ℕ) → n ≡ min (length xs) (length ys) → Alike xs ys n 0
-alike_start xs ys n e = record { shorter = e; within = omega arith; same = below_none _ }
-
-module _ {xs ys : List ℕ} {n i : ℕ} (f : Alike xs ys n i) where
-  pub alike_byte : i < n → get_or xs i 0 ≡ get_or ys i 0 → Alike xs ys n (i + 1)
-  alike_byte l e = record { shorter = f.shorter; within = omega arith; same = below_more _ _ f.same e }
-
-  pub alike_word : Bytes xs → Bytes ys → 8 ≤ n - i → number64 i xs ≡ number64 i ys → Alike xs ys n (i + 8)
-  alike_word p q l e = record {
-    shorter = f.shorter;
-    within = omega arith;
-    same = λ k m. elim (dec_lt k i) [
-      | yes h ↦ f.same k h
-      | no h ↦ number_same 8 i k xs ys p q (omega (arith, f.shorter)) (omega (arith, f.shorter)) e (omega arith) m
-    ];
-  }
-
--- two places hold the same bytes where their four words are the same
-module _ (xs ys : List ℕ) (l : length xs ≡ key_size) (m : length ys ≡ key_size) where
-  abbrev words : ℕ → Bool
-  words p = eqb (number64 p xs) (number64 p ys)
-
-  word_differs : (p : ℕ) → words p ≡ false → list_eqb xs ys ≡ false
-  word_differs p e = list_eqb_differ xs ys (λ q. eqb-false (number64 p xs) (number64 p ys) e (ap (number64 p) q))
-
-  words_same : Bytes xs → Bytes ys → words 0 ≡ true → words 8 ≡ true → words 16 ≡ true → words 24 ≡ true → list_eqb xs ys ≡ true
-  words_same b c e f g h =
-      let start = alike_start xs ys 32 (omega (arith, l, m)) in
-      let one = alike_word start b c (omega arith) (eqb-true _ _ e) in
-      let two = alike_word one b c (omega arith) (eqb-true _ _ f) in
-      let three = alike_word two b c (omega arith) (eqb-true _ _ g) in
-      let all = alike_word three b c (omega arith) (eqb-true _ _ h) in
-      equal_all xs ys 32 (l ∙ sym m) (omega (arith, l)) all.same
-
-  pub places_same : Bytes xs → Bytes ys → words 0 && words 8 && words 16 && words 24 ≡ list_eqb xs ys
-  places_same b c = go (words 0) (words 8) (words 16) (words 24) (words_same b c) (word_differs 0) (word_differs 8) (word_differs 16) (word_differs 24)
-    where
-      go : (p q r s : Bool) → (p ≡ true → q ≡ true → r ≡ true → s ≡ true → list_eqb xs ys ≡ true)
-          → (p ≡ false → list_eqb xs ys ≡ false) → (q ≡ false → list_eqb xs ys ≡ false) → (r ≡ false → list_eqb xs ys ≡ false)
-          → (s ≡ false → list_eqb xs ys ≡ false) → p && q && r && s ≡ list_eqb xs ys
-      go true true true true t e f g h = sym (t refl refl refl refl)
-      go true true true false t e f g h = sym (h refl)
-      go true true false s t e f g h = sym (g refl)
-      go true false r s t e f g h = sym (f refl)
-      go false q r s t e f g h = sym (e refl)
-
--- and then the same key
-pub places_key : (xs ys : List ℕ) (whole : Bool) → whole && list_eqb xs ys ≡ true → list_eqb (key_in xs) (key_in ys) ≡ true
-places_key xs ys whole e = list_eqb_equal _ _ (ap key_in (list_eqb_same xs ys (and_right whole (list_eqb xs ys) e)))
 
 -- ---- the order of keys
 
@@ -176,32 +119,18 @@ unfolding key_ltb
 none_below [] = refl
 none_below (x ∷ xs) = refl
 
--- "Keys compare bytewise, a proper prefix first": two keys that begin alike, up to i
-alike_below : (a b : Key) (i : ℕ) → i ≤ length a → i ≤ length b → ((k : ℕ) → k < i → get_or a k 0 ≡ get_or b k 0)
-    → key_ltb a b ≡ key_ltb (drop i a) (drop i b)
-alike_below a b zero p q s = refl
-alike_below [] b (suc i) p q s = absurd (omega (arith, p))
-alike_below (x ∷ xs) [] (suc i) p q s = absurd (omega (arith, q))
-alike_below (x ∷ xs) (y ∷ ys) (suc i) p q s =
-    head_eq x y xs ys (s 0 (omega arith)) ∙ alike_below xs ys i (omega arith) (omega arith) (λ k l. s (suc k) (omega arith))
-
-module _ (a b : Key) (i : ℕ) (p : i ≤ length a) (q : i ≤ length b) (s : (k : ℕ) → k < i → get_or a k 0 ≡ get_or b k 0) where
-  -- the second ends there: the first is not below it
-  pub alike_over : length b ≤ i → key_ltb a b ≡ false
-  alike_over h = alike_below a b i p q s ∙ rw (drop_of_length-le b h) (none_below _)
-
-  -- the first alone ends there, a proper prefix
-  pub alike_prefix : length a ≤ i → i < length b → key_ltb a b ≡ true
-  alike_prefix h m = alike_below a b i p q s ∙ rw (drop_of_length-le a h, drop_step b i m) (nil_cons _ _)
-
-  -- both go on, and differ there
-  pub alike_differ : i < length a → i < length b → (get_or a i 0 ≡ get_or b i 0 → ⊥) → key_ltb a b ≡ ltb (get_or a i 0) (get_or b i 0)
-  alike_differ h m d =
-      alike_below a b i p q s ∙ rw (drop_step a i h, drop_step b i m)
-      (⊎_elim
-      (λ l. head_lt _ _ _ _ l ∙ sym (lt-ltb _ _ l))
-      (⊎_elim (λ l. head_gt _ _ _ _ l ∙ sym (le-ltb (get_or a i 0) (get_or b i 0) (omega arith))) (λ e. absurd (d e)))
-      (three (get_or a i 0) (get_or b i 0)))
+-- "Keys compare bytewise, a proper prefix first": the order of std's lists
+pub less_is : (xs ys : Key) → is_lt (slice_cmp nat_cmp xs ys) ≡ key_ltb xs ys
+unfolding key_ltb
+less_is [] [] = refl
+less_is [] (y ∷ ys) = refl
+less_is (x ∷ xs) [] = refl
+less_is (x ∷ xs) (y ∷ ys) =
+    ⊎_elim
+    (λ l. rw (lt-ltb x y l))
+    (⊎_elim (λ l. rw (le-ltb x y (omega arith), lt-ltb y x l, ne_eqb x y (λ e. omega arith)))
+    (λ e. rw (le-ltb x y (omega arith), le-ltb y x (omega arith), eq-eqb x y e) (less_is xs ys)))
+    (three x y)
 
 pub irrefl : (k : Key) → key_ltb k k ≡ false
 irrefl [] = none_below []

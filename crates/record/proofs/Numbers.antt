@@ -5,10 +5,10 @@ use Prim.Native.Nat.{ℕ, suc, ◌+◌, ◌-◌, ◌*◌, ◌^◌, ◌≤◌, �
 use native.Mathlib.Nat.{pow-succ', pow-zero, mul_assoc, add_assoc, mul-add, pow-le-pow_right, zero-add, one-mul}
 use native.Mathlib.Omega.{arith}
 use native.Mathlib.Decide.{dec_lt}
-use lib.ListN.{length, get_or, take, drop, length-take, length-drop, get_or-eq_default}
+use lib.ListN.{length, get_or, drop, length-take, length-drop, get_or-eq_default}
 use lib.Seq.{take-add, drop-drop, length-take-le, get_or-take, get_or-drop}
+use Rattle.std.specs.Int.{w32, w64, from_le_bytes}
 use Rattle.record.specs.Numbers.{part, little_endian, number32, number64}
-use Rattle.record.proofs.Lists.{drop_step}
 
 pub length_part : (a e : ℕ) (s : List ℕ) → e ≤ length s → length (part a e s) ≡ e - a
 length_part a e s h = length-take-le (e - a) (drop a s) (rw length-drop (omega arith))
@@ -79,34 +79,31 @@ get_d_part a e k s l h =
     let w : a + (k - a) ≡ k = omega arith in
     get_or-take (e - a) (drop a s) (k - a) 0 (omega arith) ∙ get_or-drop a s (k - a) 0 ∙ ap (λ (i : ℕ). get_or s i 0) w
 
--- where two lists have the same number of n bytes, they have the same bytes
-pub number_same : (n p k : ℕ) (xs ys : List ℕ) → Bytes xs → Bytes ys → p + n ≤ length xs → p + n ≤ length ys
-    → little_endian (part p (p + n) xs) ≡ little_endian (part p (p + n) ys) → p ≤ k → k < p + n → get_or xs k 0 ≡ get_or ys k 0
-number_same n p k xs ys b c l m e u v =
-    let parts : part p (p + n) xs ≡ part p (p + n) ys =
-    little_endian_same (part p (p + n) xs) (part p (p + n) ys) (bytes_part p (p + n) xs b) (bytes_part p (p + n) ys c)
-    (length_part p (p + n) xs l ∙ sym (length_part p (p + n) ys m)) e in
-    sym (get_d_part p (p + n) k xs u v) ∙ ap (λ (s : List ℕ). get_or s (k - p) 0) parts ∙ get_d_part p (p + n) k ys u v
+-- the number that std makes of four bytes and of eight
+le_four : (bs : List ℕ) → length bs ≡ 4 → from_le_bytes w32 bs ≡ little_endian bs
+unfolding little_endian
+le_four [] e' = absurd (omega arith)
+le_four (a ∷ []) e' = absurd (omega arith)
+le_four (a ∷ b ∷ []) e' = absurd (omega arith)
+le_four (a ∷ b ∷ c ∷ []) e' = absurd (omega arith)
+le_four (a ∷ b ∷ c ∷ d ∷ []) e' = omega arith
+le_four (a ∷ b ∷ c ∷ d ∷ e ∷ r) e' = absurd (omega arith)
 
-part_step : (n p q : ℕ) (s : List ℕ) → q ≡ p + 1 → p < length s → take (suc n) (drop p s) ≡ get_or s p 0 ∷ take n (drop q s)
-part_step n p q s e h = rw (e, drop_step s p h)
+le_eight : (bs : List ℕ) → length bs ≡ 8 → from_le_bytes w64 bs ≡ little_endian bs
+unfolding little_endian
+le_eight [] e' = absurd (omega arith)
+le_eight (a ∷ []) e' = absurd (omega arith)
+le_eight (a ∷ b ∷ []) e' = absurd (omega arith)
+le_eight (a ∷ b ∷ c ∷ []) e' = absurd (omega arith)
+le_eight (a ∷ b ∷ c ∷ d ∷ []) e' = absurd (omega arith)
+le_eight (a ∷ b ∷ c ∷ d ∷ e ∷ []) e' = absurd (omega arith)
+le_eight (a ∷ b ∷ c ∷ d ∷ e ∷ f ∷ []) e' = absurd (omega arith)
+le_eight (a ∷ b ∷ c ∷ d ∷ e ∷ f ∷ g ∷ []) e' = absurd (omega arith)
+le_eight (a ∷ b ∷ c ∷ d ∷ e ∷ f ∷ g ∷ h ∷ []) e' = omega arith
+le_eight (a ∷ b ∷ c ∷ d ∷ e ∷ f ∷ g ∷ h ∷ i ∷ r) e' = absurd (omega arith)
 
--- the four bytes of a 32-bit number, as the code adds them up
-pub number32_bytes : (p : ℕ) (s : List ℕ) → p + 4 ≤ length s
-    → number32 p s ≡ get_or s p 0 + 256 * (get_or s (p + 1) 0 + 256 * (get_or s (p + 2) 0 + 256 * get_or s (p + 3) 0))
-number32_bytes p s h =
-    let w : (p + 4) - p ≡ 4 = omega arith in
-    rw (
-      w,
-      part_step 3 p (p + 1) s (omega arith) (omega arith),
-      part_step 2 (p + 1) (p + 2) s (omega arith) (omega arith),
-      part_step 1 (p + 2) (p + 3) s (omega arith) (omega arith),
-      part_step 0 (p + 3) (p + 4) s (omega arith) (omega arith),
-    )
-    (rw (little_endian_cons, little_endian_cons, little_endian_cons, little_endian_cons, little_endian_nil) (omega arith))
+pub le_number32 : (p : ℕ) (s bs : List ℕ) (n : ℕ) → p + 4 ≤ length s → bs ≡ part p (p + 4) s → n ≡ from_le_bytes w32 bs → n ≡ number32 p s
+le_number32 p s bs n h e q = q ∙ le_four bs (ap length e ∙ length_part p (p + 4) s h ∙ omega arith) ∙ ap little_endian e
 
--- a 64-bit number is two of 32 bits, the low one first
-pub number64_halves : (p : ℕ) (s : List ℕ) → p + 8 ≤ length s → number64 p s ≡ number32 p s + 0x1_0000_0000 * number32 (p + 4) s
-number64_halves p s h =
-    let l : length (part p (p + 4) s) ≡ 4 = length_part p (p + 4) s (omega arith) ∙ omega arith in
-    rw (part_append p 4 4 s, little_endian_append, l)
+pub le_number64 : (p : ℕ) (s bs : List ℕ) (n : ℕ) → p + 8 ≤ length s → bs ≡ part p (p + 8) s → n ≡ from_le_bytes w64 bs → n ≡ number64 p s
+le_number64 p s bs n h e q = q ∙ le_eight bs (ap length e ∙ length_part p (p + 8) s h ∙ omega arith) ∙ ap little_endian e

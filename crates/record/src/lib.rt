@@ -1,6 +1,7 @@
 // The 368-byte record of a trace: its numbers and keys where they lie, and its fields.
 #![tactic(auto)]
 
+pub mod code;
 pub mod field;
 pub mod key;
 pub mod limits;
