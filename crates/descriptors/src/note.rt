@@ -7,7 +7,9 @@ ghost use Rattle.rules.specs.Descriptors.{role_of, puts};
 ghost use Rattle.history.specs.Logs.{hist};
 ghost use Rattle.history.specs.Bounds.{Bounds};
 ghost use Rattle.descriptors.specs.Columns.{DescriptorsIndexed, marked_bucket, EnteredIf, AllEntered, Telling, counts_next, own_columns, DescriptorsNoted};
+ghost use Rattle.history.specs.Pasts.{taken, Indexed};
 
+use history::past::Past;
 use crate::cells::counts;
 use crate::role::{Role, applies, role_of};
 use crate::value::{first_of, greatest, is_below, standing_at};
@@ -17,6 +19,7 @@ use history::place::{
     APPLIED_HEADS, APPLIED_LINKS, COUNTS, GENERATION_HEADS, GENERATION_LINKS, STANDING_HEADS,
     STANDING_LINKS, STATED_HEADS, STATED_LINKS,
 };
+use record::Record;
 use record::field::{a, d, kind, node};
 
 // What a new record is to be entered for: it puts, it states, its value stands, it is the first of its generation, it is above
@@ -41,8 +44,8 @@ fn enter_if(work: &mut [u64], heads: usize, links: usize, count: usize, bucket: 
 }
 
 // The bucket of a record's node and range, 0 where it has no node, and whether it tells an applied index.
-fn applied_bucket(cap: usize, rec: &[u8]) -> usize
-    requires { (0 < cap) × ((cap ≤ 4096) × (length rec.now ≡ 368)) }
+fn applied_bucket(cap: usize, rec: &Record) -> usize
+    requires { (0 < cap) × (cap ≤ 4096) }
     ensures { (result ≡ marked_bucket cap (decode rec.now) (decode rec.now).node) × (result < cap) }
 {
     let Some(n) = node(rec) else {
@@ -51,20 +54,18 @@ fn applied_bucket(cap: usize, rec: &[u8]) -> usize
     bucket_by_two(cap, n.0 as u64, a(rec))
 }
 
-fn tells_applied(rec: &[u8]) -> bool
-    requires { length rec.now ≡ 368 }
+fn tells_applied(rec: &Record) -> bool
     ensures { result ≡ is_some (decode rec.now).node && (is_kind 1 (decode rec.now) || is_kind 3 (decode rec.now) || is_kind 4 (decode rec.now)) }
 {
     node(rec).is_some() & applies(kind(rec))
 }
 
 // A put at an index: whether it stands, is the first of its generation, and is above the greatest of its range.
-fn told_put(log: &[u8], work: &[u64], count: usize, cap: usize, rec: &[u8], index: u64) -> Told
-    requires { Bounds log.now work.now count cap × (length rec.now ≡ 368) }
-    ensures { DescriptorsIndexed cap (hist log.now count) work.now → role_of (decode rec.now) (hist log.now count) ≡ puts index → Telling (decode rec.now) (hist log.now count) result }
+fn told_put(past: &Past, rec: &Record, index: u64) -> Told
+    ensures { Indexed DescriptorsIndexed past.now → role_of (decode rec.now) (taken past.now) ≡ puts index → Telling (decode rec.now) (taken past.now) result }
 {
     let range = a(rec);
-    if standing_at(log, work, count, cap, range, index) != 0 {
+    if standing_at(past, range, index) != 0 {
         return Told {
             puts: true,
             states: false,
@@ -73,9 +74,9 @@ fn told_put(log: &[u8], work: &[u64], count: usize, cap: usize, rec: &[u8], inde
             rises: false,
         };
     }
-    let first = first_of(log, work, count, cap, range, d(rec)) == 0;
-    let top = greatest(log, work, count, cap, range, true, 0, true, 0);
-    let rises = is_below(log, top, index);
+    let first = first_of(past, range, d(rec)) == 0;
+    let top = greatest(past, range, true, 0, true, 0);
+    let rises = is_below(past.log, top, index);
     Told {
         puts: true,
         states: false,
@@ -86,12 +87,11 @@ fn told_put(log: &[u8], work: &[u64], count: usize, cap: usize, rec: &[u8], inde
 }
 
 // What a new record is to be entered for.
-fn told_of(log: &[u8], work: &[u64], count: usize, cap: usize, rec: &[u8]) -> Told
-    requires { Bounds log.now work.now count cap × (length rec.now ≡ 368) }
-    ensures { DescriptorsIndexed cap (hist log.now count) work.now → Telling (decode rec.now) (hist log.now count) result }
+fn told_of(past: &Past, rec: &Record) -> Told
+    ensures { Indexed DescriptorsIndexed past.now → Telling (decode rec.now) (taken past.now) result }
 {
-    match role_of(log, work, count, cap, rec) {
-        Role::Puts(index) => told_put(log, work, count, cap, rec, index),
+    match role_of(past, rec) {
+        Role::Puts(index) => told_put(past, rec, index),
         Role::States(_) => Told {
             puts: false,
             states: true,
@@ -184,8 +184,8 @@ fn enter_all(
 }
 
 // Enters a record by what it is told to be, and writes its word.
-fn note_told(work: &mut [u64], count: usize, cap: usize, rec: &[u8], told: Told)
-    requires { (32 * cap ≤ length work.old) × ((count < cap) × ((cap ≤ 4096) × (length rec.now ≡ 368))) }
+fn note_told(work: &mut [u64], count: usize, cap: usize, rec: &Record, told: Told)
+    requires { (32 * cap ≤ length work.old) × ((count < cap) × (cap ≤ 4096)) }
     ensures { DescriptorsNoted work.old work.new count cap (decode rec.now) told }
 {
     let after = counts_next(counts(work, count, cap), told.puts, told.states);
@@ -209,8 +209,8 @@ fn note_told(work: &mut [u64], count: usize, cap: usize, rec: &[u8], told: Told)
 
 // Notes a new record: whatever the log and the work area hold, no word outside the crate's own columns changes, and where the
 // columns are what the history says, they are so with the record.
-pub fn note(log: &[u8], work: &mut [u64], count: usize, cap: usize, rec: &[u8])
-    requires { Bounds log.now work.old count cap × ((count < cap) × (length rec.now ≡ 368)) }
+pub fn note(log: &[u8], work: &mut [u64], count: usize, cap: usize, rec: &Record)
+    requires { Bounds log.now work.old count cap × (count < cap) }
     ensures len { length work.new ≡ length work.old }
     ensures others { (j : ℕ) → own_columns * cap ≤ j → get_or work.new j 0 ≡ get_or work.old j 0 }
     ensures indexed { DescriptorsIndexed cap (hist log.now count) work.old → DescriptorsIndexed cap (decode rec.now ∷ hist log.now count) work.new }

@@ -3,17 +3,19 @@ ghost use Rattle.std.specs.Prelude.{◌≡◌, ◌&&◌, ◌||◌, not, cond, �
 ghost use Rattle.record.specs.Records.{decode};
 ghost use Rattle.rules.specs.History.{latest_of, holds};
 ghost use Rattle.rules.specs.Descriptors.{standing, at, before, first_at_generation};
-ghost use Rattle.history.specs.Logs.{record_at, hist};
+ghost use Rattle.history.specs.Logs.{record_at};
 ghost use Rattle.history.specs.Weighing.{greater_of, lower_of};
-ghost use Rattle.history.specs.Bounds.{Bounds};
 ghost use Rattle.history.specs.Places.{counts};
 ghost use Rattle.descriptors.specs.Columns.{DescriptorsIndexed, put_entry, put};
 ghost use Rattle.descriptors.specs.Answers.{found_by, greatest_up_to, lowest_above, at_place};
 ghost use Rattle.rules.specs.Answers.{found_at};
+ghost use Rattle.history.specs.Pasts.{taken, Indexed};
 
+use history::past::Past;
 use crate::cells::{generation_below, generation_top, is_rising, standing_below, standing_top};
 use history::bucket::{bucket_by, bucket_by_two};
 use history::log::record_at;
+use record::Record;
 use record::field::{a, b, d};
 
 // The index at which the record of a number puts its value.
@@ -45,8 +47,7 @@ fn rest_below(log: &[u8], work: &[u64], cap: usize, i: usize, range: u64, index:
 }
 
 // Whether the value of a record is of a range, up to an index unless it is free, of a generation unless any will do.
-fn is_up_to(rec: &[u8], range: u64, free: bool, index: u64, any: bool, generation: u64) -> bool
-    requires { length rec.now ≡ 368 }
+fn is_up_to(rec: &Record, range: u64, free: bool, index: u64, any: bool, generation: u64) -> bool
     ensures { result ≡ eqb (decode rec.now).a range && (free || leb (decode rec.now).b index) && (any || eqb (decode rec.now).d generation) }
 {
     (a(rec) == range) & (free | (b(rec) <= index)) & (any | (d(rec) == generation))
@@ -87,37 +88,25 @@ fn lower(log: &[u8], best: usize, i: usize, passes: bool) -> usize
 
 // The number of the standing value of a range at the greatest index up to the one given, or at all where that is free. Earlier
 // values than a marked one that passes are below it: the walk stops.
-pub fn greatest(
-    log: &[u8],
-    work: &[u64],
-    count: usize,
-    cap: usize,
-    range: u64,
-    free: bool,
-    index: u64,
-    any: bool,
-    generation: u64,
-) -> usize
-    requires { Bounds log.now work.now count cap }
-    ensures { (result ≤ count) × (DescriptorsIndexed cap (hist log.now count) work.now → put log.now result ≡ greatest_up_to range free index any generation (standing (hist log.now count))) }
+pub fn greatest(past: &Past, range: u64, free: bool, index: u64, any: bool, generation: u64) -> usize
+    ensures { (result ≤ past.now.count) × (Indexed DescriptorsIndexed past.now → put past.now.log.now result ≡ greatest_up_to range free index any generation (standing (taken past.now))) }
 {
     let mut best = 0usize;
-    let mut i = standing_top(work, cap, bucket_by(cap, range), count);
+    let mut i = standing_top(past.work, past.cap, bucket_by(past.cap, range), past.count);
     while 0 < i {
         i -= 1;
-        let passes = is_up_to(record_at(log, i), range, free, index, any, generation);
-        best = greater(log, best, i, passes);
-        if passes & is_rising(work, cap, i) {
+        let passes = is_up_to(past.record(i), range, free, index, any, generation);
+        best = greater(past.log, best, i, passes);
+        if passes & is_rising(past.work, past.cap, i) {
             return best;
         }
-        i = standing_below(work, cap, i);
+        i = standing_below(past.work, past.cap, i);
     }
     best
 }
 
 // Whether the value of a record is of a range, above an index, of a generation unless any will do.
-fn is_above(rec: &[u8], range: u64, index: u64, any: bool, generation: u64) -> bool
-    requires { length rec.now ≡ 368 }
+fn is_above(rec: &Record, range: u64, index: u64, any: bool, generation: u64) -> bool
     ensures { result ≡ eqb (decode rec.now).a range && ltb index (decode rec.now).b && (any || eqb (decode rec.now).d generation) }
 {
     (a(rec) == range) & (index < b(rec)) & (any | (d(rec) == generation))
@@ -125,92 +114,64 @@ fn is_above(rec: &[u8], range: u64, index: u64, any: bool, generation: u64) -> b
 
 // The number of the standing value of a range at the lowest index above the one given. The walk stops where nothing earlier
 // is above.
-pub fn lowest(
-    log: &[u8],
-    work: &[u64],
-    count: usize,
-    cap: usize,
-    range: u64,
-    index: u64,
-    any: bool,
-    generation: u64,
-) -> usize
-    requires { Bounds log.now work.now count cap }
-    ensures { (result ≤ count) × (DescriptorsIndexed cap (hist log.now count) work.now → put log.now result ≡ lowest_above range index any generation (standing (hist log.now count))) }
+pub fn lowest(past: &Past, range: u64, index: u64, any: bool, generation: u64) -> usize
+    ensures { (result ≤ past.now.count) × (Indexed DescriptorsIndexed past.now → put past.now.log.now result ≡ lowest_above range index any generation (standing (taken past.now))) }
 {
     let mut best = 0usize;
-    let mut i = standing_top(work, cap, bucket_by(cap, range), count);
+    let mut i = standing_top(past.work, past.cap, bucket_by(past.cap, range), past.count);
     while 0 < i {
         i -= 1;
-        let passes = is_above(record_at(log, i), range, index, any, generation);
-        best = lower(log, best, i, passes);
-        if rest_below(log, work, cap, i, range, index) {
+        let passes = is_above(past.record(i), range, index, any, generation);
+        best = lower(past.log, best, i, passes);
+        if rest_below(past.log, past.work, past.cap, i, range, index) {
             return best;
         }
-        i = standing_below(work, cap, i);
+        i = standing_below(past.work, past.cap, i);
     }
     best
 }
 
-fn is_at(rec: &[u8], range: u64, index: u64) -> bool
-    requires { length rec.now ≡ 368 }
+fn is_at(rec: &Record, range: u64, index: u64) -> bool
     ensures { result ≡ eqb range (decode rec.now).a && eqb index (decode rec.now).b }
 {
     (range == a(rec)) & (index == b(rec))
 }
 
 // The number of the value that stands at an index of a range. The walk stops where everything earlier is below.
-pub fn standing_at(
-    log: &[u8],
-    work: &[u64],
-    count: usize,
-    cap: usize,
-    range: u64,
-    index: u64,
-) -> usize
-    requires { Bounds log.now work.now count cap }
-    ensures { (result ≤ count) × (DescriptorsIndexed cap (hist log.now count) work.now → put log.now result ≡ latest_of (at_place range index) (standing (hist log.now count))) }
+pub fn standing_at(past: &Past, range: u64, index: u64) -> usize
+    ensures { (result ≤ past.now.count) × (Indexed DescriptorsIndexed past.now → put past.now.log.now result ≡ latest_of (at_place range index) (standing (taken past.now))) }
 {
-    let mut i = standing_top(work, cap, bucket_by(cap, range), count);
+    let mut i = standing_top(past.work, past.cap, bucket_by(past.cap, range), past.count);
     while 0 < i {
         i -= 1;
-        if is_at(record_at(log, i), range, index) {
+        if is_at(past.record(i), range, index) {
             return i + 1;
         }
-        if rest_below(log, work, cap, i, range, index) {
+        if rest_below(past.log, past.work, past.cap, i, range, index) {
             return 0;
         }
-        i = standing_below(work, cap, i);
+        i = standing_below(past.work, past.cap, i);
     }
     0
 }
 
-fn is_of(rec: &[u8], range: u64, generation: u64) -> bool
-    requires { length rec.now ≡ 368 }
+fn is_of(rec: &Record, range: u64, generation: u64) -> bool
     ensures { result ≡ eqb (decode rec.now).a range && eqb (decode rec.now).d generation }
 {
     (a(rec) == range) & (d(rec) == generation)
 }
 
 // The number of the first value of a range and generation.
-pub fn first_of(
-    log: &[u8],
-    work: &[u64],
-    count: usize,
-    cap: usize,
-    range: u64,
-    generation: u64,
-) -> usize
-    requires { Bounds log.now work.now count cap }
-    ensures { (result ≤ count) × (DescriptorsIndexed cap (hist log.now count) work.now → put log.now result ≡ first_at_generation range generation (hist log.now count)) }
+pub fn first_of(past: &Past, range: u64, generation: u64) -> usize
+    ensures { (result ≤ past.now.count) × (Indexed DescriptorsIndexed past.now → put past.now.log.now result ≡ first_at_generation range generation (taken past.now)) }
 {
-    let mut i = generation_top(work, cap, bucket_by_two(cap, range, generation), count);
+    let mut i = generation_top(past.work, past.cap, bucket_by_two(past.cap, range, generation), past.count);
     while 0 < i {
         i -= 1;
-        if is_of(record_at(log, i), range, generation) {
+        if is_of(past.record(i), range, generation) {
             return i + 1;
         }
-        i = generation_below(work, cap, i);
+        i = generation_below(past.work, past.cap, i);
     }
     0
 }
@@ -226,35 +187,25 @@ fn found(number: usize) -> Option<u64>
 }
 
 // The value in force at an index of a range: the number of the record that put it.
-pub fn at(log: &[u8], work: &[u64], count: usize, cap: usize, range: u64, index: u64) -> Option<u64>
-    requires { Bounds log.now work.now count cap }
-    ensures { DescriptorsIndexed cap (hist log.now count) work.now → result ≡ found_by (at range index (hist log.now count)) }
+pub fn at(past: &Past, range: u64, index: u64) -> Option<u64>
+    ensures { Indexed DescriptorsIndexed past.now → result ≡ found_by (at range index (taken past.now)) }
 {
-    found(greatest(log, work, count, cap, range, false, index, true, 0))
+    found(greatest(past, range, false, index, true, 0))
 }
 
 // The value in force before an index of a range: the one at the index before it.
-pub fn before(log: &[u8], work: &[u64], count: usize, cap: usize, range: u64, index: u64) -> Option<u64>
-    requires { Bounds log.now work.now count cap }
-    ensures { DescriptorsIndexed cap (hist log.now count) work.now → result ≡ found_by (before range index (hist log.now count)) }
+pub fn before(past: &Past, range: u64, index: u64) -> Option<u64>
+    ensures { Indexed DescriptorsIndexed past.now → result ≡ found_by (before range index (taken past.now)) }
 {
     if index == 0 {
         return None;
     }
-    at(log, work, count, cap, range, index - 1)
+    at(past, range, index - 1)
 }
 
 // The first value of a range and generation: the number of the record that put it.
-pub fn first_at_generation(
-    log: &[u8],
-    work: &[u64],
-    count: usize,
-    cap: usize,
-    range: u64,
-    generation: u64,
-) -> Option<u64>
-    requires { Bounds log.now work.now count cap }
-    ensures { DescriptorsIndexed cap (hist log.now count) work.now → result ≡ found_by (first_at_generation range generation (hist log.now count)) }
+pub fn first_at_generation(past: &Past, range: u64, generation: u64) -> Option<u64>
+    ensures { Indexed DescriptorsIndexed past.now → result ≡ found_by (first_at_generation range generation (taken past.now)) }
 {
-    found(first_of(log, work, count, cap, range, generation))
+    found(first_of(past, range, generation))
 }

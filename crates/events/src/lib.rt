@@ -8,6 +8,7 @@ ghost use Rattle.history.specs.Logs.{hist};
 ghost use Rattle.events.specs.Numbers.{node_number, event_in};
 
 use history::log::record_at;
+use record::Record;
 use record::field::{b, flag, kind, node};
 
 // MetaApplied, the one kind whose records continue.
@@ -17,16 +18,14 @@ const META_APPLIED: u8 = 12;
 const MOST: u64 = 0xffff_ffff_ffff_ffff;
 
 // Whether a record continues the event before it.
-pub fn continues(rec: &[u8]) -> bool
-    requires { length rec.now ≡ 368 }
+pub fn continues(rec: &Record) -> bool
     ensures { result ≡ continues (decode rec.now) }
 {
     (kind(rec) == META_APPLIED) & (flag(rec) == 1)
 }
 
 // How many events there are with one more record, after so many.
-pub fn event_after(events: u64, rec: &[u8]) -> u64
-    requires { length rec.now ≡ 368 }
+pub fn event_after(events: u64, rec: &Record) -> u64
     ensures { result ≡ event_in events (decode rec.now) }
 {
     if continues(rec) | (events == MOST) {
@@ -36,8 +35,7 @@ pub fn event_after(events: u64, rec: &[u8]) -> u64
 }
 
 // A record's mark and node as one number: 0 where it is not marked.
-fn node_number(rec: &[u8]) -> u64
-    requires { length rec.now ≡ 368 }
+fn node_number(rec: &Record) -> u64
     ensures { result ≡ node_number (decode rec.now).node }
 {
     match node(rec) {
@@ -47,16 +45,15 @@ fn node_number(rec: &[u8]) -> u64
 }
 
 // Whether a record goes on with the event of the one before it.
-fn goes_on<'a>(rec: &'a [u8], last: &'a [u8]) -> bool
-    requires { (length rec.now ≡ 368) × (length last.now ≡ 368) }
+fn goes_on<'a>(rec: &'a Record, last: &'a Record) -> bool
     ensures { result ≡ goes_on (decode rec.now) (decode last.now) }
 {
     (kind(last) == META_APPLIED) & (node_number(rec) == node_number(last)) & (b(rec) == b(last))
 }
 
 // Refusal 11: whether a record that continues has no event to continue, after the first n of a log.
-pub fn stray<'a>(log: &'a [u8], n: usize, rec: &'a [u8]) -> bool
-    requires { (368 * n ≤ length log.now) × (length rec.now ≡ 368) }
+pub fn stray<'a>(log: &'a [u8], n: usize, rec: &'a Record) -> bool
+    requires { 368 * n ≤ length log.now }
     ensures { result ≡ stray (decode rec.now) (hist log.now n) }
 {
     if !continues(rec) {

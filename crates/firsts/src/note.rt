@@ -7,11 +7,12 @@ ghost use Rattle.firsts.specs.Columns.{first_grant, first_write, FirstEntered};
 use history::bucket::{bucket_by, bucket_by_two};
 use history::chain::enter;
 use history::place::{FIRST_HEADS, FIRST_LINKS};
+use record::Record;
 use record::field::{a, b};
 
 // Enters a record with a first grant, after the count records taken.
-pub fn enter_grant(work: &mut [u64], count: usize, cap: usize, rec: &[u8])
-    requires { (32 * cap ≤ length work.old) × ((count < cap) × ((cap ≤ 4096) × (length rec.now ≡ 368))) }
+pub fn enter_grant(work: &mut [u64], count: usize, cap: usize, rec: &Record)
+    requires { (32 * cap ≤ length work.old) × ((count < cap) × (cap ≤ 4096)) }
     ensures { FirstEntered first_grant cap count (decode rec.now) work.old work.new }
 {
     enter(
@@ -24,8 +25,8 @@ pub fn enter_grant(work: &mut [u64], count: usize, cap: usize, rec: &[u8])
 }
 
 // Enters a record with a write that counts.
-pub fn enter_write(work: &mut [u64], count: usize, cap: usize, rec: &[u8])
-    requires { (32 * cap ≤ length work.old) × ((count < cap) × ((cap ≤ 4096) × (length rec.now ≡ 368))) }
+pub fn enter_write(work: &mut [u64], count: usize, cap: usize, rec: &Record)
+    requires { (32 * cap ≤ length work.old) × ((count < cap) × (cap ≤ 4096)) }
     ensures { FirstEntered first_write cap count (decode rec.now) work.old work.new }
 {
     enter(

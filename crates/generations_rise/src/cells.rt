@@ -3,37 +3,36 @@ ghost use Rattle.std.specs.Prelude.{◌≡◌, List, ℕ, ◌*◌, ◌≤◌, �
 ghost use Rattle.record.specs.Keys.{key_in, key_eqb};
 ghost use Rattle.record.specs.Records.{decode};
 ghost use Rattle.rules.specs.Descriptors.{span_of};
-ghost use Rattle.history.specs.Bounds.{Bounds};
 ghost use Rattle.history.specs.Logs.{record_at, hist};
 ghost use Rattle.generations_rise.specs.Columns.{GenerationsIndexed, generation_by, last_write_at};
+ghost use Rattle.history.specs.Pasts.{taken, Indexed};
 
+use history::past::Past;
 use crate::key::bucket_by_key;
 use history::chain::link;
-use history::log::record_at;
 use history::place::{KEY_HEADS, KEY_LINKS, WRITTEN_AT};
 use history::span::start_of;
+use record::Record;
 use record::key::same_key;
 
 // Whether the first span of a record begins with the key in a place.
-fn has_key(rec: &[u8], place: &[u8]) -> bool
-    requires { length rec.now ≡ 368 }
+fn has_key(rec: &Record, place: &[u8]) -> bool
     ensures { result ≡ key_eqb (span_of 0 (decode rec.now)).start (key_in place.now) }
 {
     same_key(start_of(rec, 0), place)
 }
 
 // The number of the record with the last write of the key in a place, 0 where there is none.
-pub fn last_write_at(log: &[u8], work: &[u64], count: usize, cap: usize, place: &[u8]) -> usize
-    requires { Bounds log.now work.now count cap }
-    ensures { (result ≤ count) × (GenerationsIndexed cap (hist log.now count) work.now → result ≡ last_write_at (key_in place.now) (hist log.now count)) }
+pub fn last_write_at(past: &Past, place: &[u8]) -> usize
+    ensures { (result ≤ past.now.count) × (Indexed GenerationsIndexed past.now → result ≡ last_write_at (key_in place.now) (taken past.now)) }
 {
-    let mut i = link(work, KEY_HEADS * cap + bucket_by_key(cap, place), count);
+    let mut i = link(past.work, KEY_HEADS * past.cap + bucket_by_key(past.cap, place), past.count);
     while 0 < i {
         let at = i - 1;
-        if has_key(record_at(log, at), place) {
+        if has_key(past.record(at), place) {
             return i;
         }
-        i = link(work, KEY_LINKS * cap + at, at);
+        i = link(past.work, KEY_LINKS * past.cap + at, at);
     }
     i
 }

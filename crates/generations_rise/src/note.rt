@@ -6,6 +6,7 @@ ghost use Rattle.history.specs.Bounds.{Bounds};
 ghost use Rattle.history.specs.Logs.{hist};
 ghost use Rattle.generations_rise.specs.Columns.{GenerationsNoted, GenerationsTaken};
 
+use record::Record;
 use crate::key::bucket_by_key;
 use crate::write::{Written, counts_as};
 use firsts::note::enter_write;
@@ -14,16 +15,16 @@ use history::place::{KEY_HEADS, KEY_LINKS, WRITTEN_AT};
 use history::span::start_of;
 
 // A write that counts and has no generation.
-fn note_unrated(work: &mut [u64], count: usize, cap: usize, rec: &[u8])
-    requires { (32 * cap ≤ length work.old) × ((count < cap) × ((cap ≤ 4096) × (length rec.now ≡ 368))) }
+fn note_unrated(work: &mut [u64], count: usize, cap: usize, rec: &Record)
+    requires { (32 * cap ≤ length work.old) × ((count < cap) × (cap ≤ 4096)) }
     ensures { (h : History) → length h ≡ count → GenerationsNoted cap h (decode rec.now) Written.Unrated work.old work.new }
 {
     enter_write(work, count, cap, rec);
 }
 
 // A write that counts at a generation.
-fn note_rated(work: &mut [u64], count: usize, cap: usize, rec: &[u8], generation: u64)
-    requires { (32 * cap ≤ length work.old) × ((count < cap) × ((cap ≤ 4096) × (length rec.now ≡ 368))) }
+fn note_rated(work: &mut [u64], count: usize, cap: usize, rec: &Record, generation: u64)
+    requires { (32 * cap ≤ length work.old) × ((count < cap) × (cap ≤ 4096)) }
     ensures { (h : History) → length h ≡ count → GenerationsNoted cap h (decode rec.now) (Written.Rated generation) work.old work.new }
 {
     enter_write(work, count, cap, rec);
@@ -38,8 +39,8 @@ fn note_rated(work: &mut [u64], count: usize, cap: usize, rec: &[u8], generation
 }
 
 // Takes a record whose write counts as w, after those taken, into the columns of `GenerationsRise`.
-pub fn note_as(work: &mut [u64], count: usize, cap: usize, rec: &[u8], w: Written)
-    requires { (32 * cap ≤ length work.old) × ((count < cap) × ((cap ≤ 4096) × (length rec.now ≡ 368))) }
+pub fn note_as(work: &mut [u64], count: usize, cap: usize, rec: &Record, w: Written)
+    requires { (32 * cap ≤ length work.old) × ((count < cap) × (cap ≤ 4096)) }
     ensures { (h : History) → length h ≡ count → GenerationsNoted cap h (decode rec.now) w work.old work.new }
 {
     match w {
@@ -50,8 +51,8 @@ pub fn note_as(work: &mut [u64], count: usize, cap: usize, rec: &[u8], w: Writte
 }
 
 // Takes a record, after those taken, into the columns of `GenerationsRise`.
-pub fn note(log: &[u8], work: &mut [u64], count: usize, cap: usize, rec: &[u8])
-    requires { Bounds log.now work.old count cap × ((count < cap) × (length rec.now ≡ 368)) }
+pub fn note(log: &[u8], work: &mut [u64], count: usize, cap: usize, rec: &Record)
+    requires { Bounds log.now work.old count cap × (count < cap) }
     ensures { GenerationsTaken cap (hist log.now count) (decode rec.now) work.old work.new }
 {
     let w = counts_as(log, work, count, cap, rec);

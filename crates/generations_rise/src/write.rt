@@ -6,18 +6,19 @@ ghost use Rattle.record.specs.Records.{decode};
 ghost use Rattle.record.specs.declared.named.ApplyEffect.TheVariants.{Applied};
 ghost use Rattle.rules.specs.History.{is_kind};
 ghost use Rattle.rules.specs.GenerationsRise.{has_effect};
-ghost use Rattle.history.specs.Bounds.{Bounds};
-ghost use Rattle.history.specs.Logs.{hist};
 ghost use Rattle.firsts.specs.Columns.{FirstsIndexed};
 ghost use Rattle.rules.specs.Answers.{found_at};
 ghost use Rattle.descriptors.specs.Columns.{DescriptorsIndexed};
 ghost use Rattle.generations_rise.specs.Columns.{GenerationsIndexed, last_write_at};
 ghost use Rattle.generations_rise.specs.Answers.{written_as, found_generation};
+ghost use Rattle.history.specs.Pasts.{taken, Indexed};
 
+use history::past::Past;
 use crate::cells::last_write_at;
 use descriptors::value::before;
 use firsts::cells::is_counted;
 use history::log::record_at;
+use record::Record;
 use record::field::{a, b, code, d, kind, span_count};
 
 // What a record's write counts as: none that counts, one that has no generation, one at a generation.
@@ -29,8 +30,7 @@ pub enum Written {
 }
 
 // Whether a record is an Applied write with a key.
-fn is_write(rec: &[u8]) -> bool
-    requires { length rec.now ≡ 368 }
+fn is_write(rec: &Record) -> bool
     ensures { result ≡ has_effect Applied (decode rec.now) && leb 1 (length (decode rec.now).spans) }
 {
     (kind(rec) == 3) & (code(rec) == 1) & (1 <= span_count(rec))
@@ -62,28 +62,26 @@ fn generation_at(log: &[u8], count: usize, n: u64) -> Written
 }
 
 // What a record's write counts as, over the records taken.
-pub fn counts_as(log: &[u8], work: &[u64], count: usize, cap: usize, rec: &[u8]) -> Written
-    requires { Bounds log.now work.now count cap × (length rec.now ≡ 368) }
+pub fn counts_as(past: &Past, rec: &Record) -> Written
     ensures kind { is_kind 3 (decode rec.now) ≡ false → result ≡ Written.Not }
-    ensures told { FirstsIndexed cap (hist log.now count) work.now → DescriptorsIndexed cap (hist log.now count) work.now → result ≡ written_as (decode rec.now) (hist log.now count) }
+    ensures told { Indexed FirstsIndexed past.now → Indexed DescriptorsIndexed past.now → result ≡ written_as (decode rec.now) (taken past.now) }
 {
     if !is_write(rec) {
         return Written::Not;
     }
     let range = a(rec);
     let index = b(rec);
-    if is_counted(log, work, count, cap, range, index) {
+    if is_counted(past, range, index) {
         return Written::Not;
     }
-    generation_of(log, count, before(log, work, count, cap, range, index))
+    generation_of(past.log, past.count, before(past, range, index))
 }
 
 // The record with the last write of the key in a place, as a look-up's answer.
-pub fn last_write(log: &[u8], work: &[u64], count: usize, cap: usize, place: &[u8]) -> Option<u64>
-    requires { Bounds log.now work.now count cap }
-    ensures { GenerationsIndexed cap (hist log.now count) work.now → result ≡ found_at (last_write_at (key_in place.now) (hist log.now count)) }
+pub fn last_write(past: &Past, place: &[u8]) -> Option<u64>
+    ensures { Indexed GenerationsIndexed past.now → result ≡ found_at (last_write_at (key_in place.now) (taken past.now)) }
 {
-    let n = last_write_at(log, work, count, cap, place);
+    let n = last_write_at(past, place);
     if n == 0 {
         return None;
     }

@@ -25,6 +25,10 @@ pub record OnPast (p : Past) (down : ℕ) (c : Chain) : Type 0 where
   pub links : c.links.now ≡ part (down * p.cap) ((down + 1) * p.cap) p.work.now
   pub within : c.next ≤ p.count
 
+-- what a look-back is lent has the bounds that the definitions below ask for
+pub bounds : (p : Past) → Bounds p.log.now p.work.now p.count p.cap
+bounds p = record { log_holds = p.log_holds; work_holds = p.work_holds; within = p.within; positive = p.positive; small = p.small }
+
 -- a clamped number is no greater than the top
 clamp_below : (x top : ℕ) → clamp x top ≤ top
 clamp_below x top =

@@ -1,5 +1,5 @@
 -- The records taken so far, as a look-back is lent them, and walks along their chains.
-use Rattle.std.specs.Prelude.{◌≡◌, List, ℕ, zero, ◌+◌, ◌-◌, ◌*◌, ◌<◌, ◌≤◌, get_or, Option, Some, None, MatchOption, ⊤}
+use Rattle.std.specs.Prelude.{◌≡◌, List, ℕ, ◌+◌, ◌-◌, ◌*◌, ◌<◌, ◌≤◌, get_or, Option, Some, None, MatchOption, ⊤}
 use Rattle.record.specs.Numbers.{part}
 use Rattle.rules.specs.History.{History}
 use Rattle.history.specs.declared.past.Past.{Past}

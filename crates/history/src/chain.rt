@@ -34,9 +34,5 @@ pub fn put(work: &mut [u64], at: usize, v: u64)
 pub fn clear(work: &mut [u64])
     ensures { work.new ≡ replicate (length work.old) 0 }
 {
-    let mut i = 0usize;
-    while i < work.len() {
-        work[i] = 0;
-        i += 1;
-    }
+    work.fill(0);
 }

@@ -4,7 +4,6 @@
 
 pub mod bucket;
 pub mod chain;
-
 pub mod held;
 pub mod log;
 pub mod past;

@@ -16,14 +16,10 @@ pub fn record_at(log: &[u8], i: usize) -> &Record
 }
 
 // Writes a record at the place after the first count.
-pub fn append(log: &mut [u8], count: usize, rec: &[u8])
-    requires { (368 * count + 368 ≤ length log.old) × (length rec.now ≡ 368) }
+pub fn append(log: &mut [u8], count: usize, rec: &Record)
+    requires { 368 * count + 368 ≤ length log.old }
     ensures { Appended log.old log.new count rec.now }
 {
     let at = RECORD_SIZE * count;
-    let mut i = 0usize;
-    while i < RECORD_SIZE {
-        log[at + i] = rec[i];
-        i += 1;
-    }
+    log[at..at + RECORD_SIZE].copy_from_slice(rec);
 }

@@ -1,9 +1,10 @@
 // The keys of a record's spans where they lie. A span that the record does not have has empty keys.
-ghost use Rattle.std.specs.Prelude.{◌≡◌, ◌<◌, length};
+ghost use Rattle.std.specs.Prelude.{◌≡◌, ◌<◌};
 ghost use Rattle.record.specs.Keys.{key_in};
 ghost use Rattle.record.specs.Records.{decode};
 ghost use Rattle.rules.specs.Descriptors.{span_of};
 
+use record::Record;
 use record::field::span_count;
 use record::limits::{KEY_SIZE, SPAN_SIZE, SPANS_AT};
 
@@ -13,8 +14,8 @@ const END_AT: usize = SPANS_AT + KEY_SIZE;
 const OVER_AT: usize = SPANS_AT + SPAN_SIZE;
 
 // The place of a span's start.
-pub fn start_of(rec: &[u8], k: usize) -> &[u8]
-    requires { (length rec.now ≡ 368) × (k < 4) }
+pub fn start_of(rec: &Record, k: usize) -> &[u8]
+    requires { k < 4 }
     ensures { key_in result.now ≡ (span_of k (decode rec.now)).start }
 {
     if span_count(rec) <= k {
@@ -26,8 +27,8 @@ pub fn start_of(rec: &[u8], k: usize) -> &[u8]
 }
 
 // The place of a span's end.
-pub fn end_of(rec: &[u8], k: usize) -> &[u8]
-    requires { (length rec.now ≡ 368) × (k < 4) }
+pub fn end_of(rec: &Record, k: usize) -> &[u8]
+    requires { k < 4 }
     ensures { key_in result.now ≡ (span_of k (decode rec.now)).end }
 {
     if span_count(rec) <= k {

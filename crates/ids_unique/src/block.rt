@@ -1,13 +1,12 @@
 // A new block weighed against the older ones, in a walk from block to block.
 ghost use Rattle.std.specs.Prelude.{◌≡◌, false, cond, ◌&&◌, leb, ltb};
 ghost use Rattle.rules.specs.IdsUnique.{blocks_of};
-ghost use Rattle.history.specs.Logs.{hist};
-ghost use Rattle.history.specs.Bounds.{Bounds};
 ghost use Rattle.ids_unique.specs.Columns.{IdsIndexed};
 ghost use Rattle.ids_unique.specs.Sharing.{weigh, weigh_all};
+ghost use Rattle.history.specs.Pasts.{taken, Indexed};
 
+use history::past::Past;
 use crate::cells::block_below;
-use history::log::record_at;
 use record::field::{d, e};
 
 // What a walk from block to block has found of a new block: whether one shares an id with it, and the greatest first not
@@ -44,24 +43,16 @@ fn weighed(s: Shared, first: u64, last: u64, from: u64, to: u64) -> Shared
 }
 
 // Weighs every block against a new one.
-pub fn shared_with(
-    log: &[u8],
-    work: &[u64],
-    count: usize,
-    cap: usize,
-    first: u64,
-    last: u64,
-) -> Shared
-    requires { Bounds log.now work.now count cap }
-    ensures { IdsIndexed cap (hist log.now count) work.now → result ≡ weigh_all first last (record { any = false; top = 0 }) (blocks_of (hist log.now count)) }
+pub fn shared_with(past: &Past, first: u64, last: u64) -> Shared
+    ensures { Indexed IdsIndexed past.now → result ≡ weigh_all first last (record { any = false; top = 0 }) (blocks_of (taken past.now)) }
 {
     let mut s = Shared { any: false, top: 0 };
-    let mut i = block_below(work, cap, count);
+    let mut i = block_below(past.work, past.cap, past.count);
     while 0 < i {
         let at = i - 1;
-        let rec = record_at(log, at);
+        let rec = past.record(at);
         s = weighed(s, first, last, d(rec), e(rec));
-        i = block_below(work, cap, at);
+        i = block_below(past.work, past.cap, at);
     }
     s
 }

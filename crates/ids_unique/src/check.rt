@@ -1,31 +1,29 @@
 // The ids check at a new record.
-ghost use Rattle.std.specs.Prelude.{◌≡◌, not, [], ◌∷◌, ◌<◌, length};
+ghost use Rattle.std.specs.Prelude.{◌≡◌, not, [], ◌∷◌, ◌<◌};
 ghost use Rattle.record.specs.Records.{decode};
 ghost use Rattle.rules.specs.Cases.{fault, fault_if};
 ghost use Rattle.rules.specs.IdsUnique.{grant_by, grant_eqb, blocks_of, first_fault, ids_at};
-ghost use Rattle.history.specs.Logs.{hist};
-ghost use Rattle.history.specs.Bounds.{Bounds};
 ghost use Rattle.firsts.specs.Columns.{FirstsIndexed};
 ghost use Rattle.ids_unique.specs.Columns.{IdsIndexed};
+ghost use Rattle.history.specs.Pasts.{taken, Indexed};
 
+use history::past::Past;
 use crate::block::shared_with;
 use crate::cells::greatest_last;
 use firsts::cells::grant_at;
-use history::log::record_at;
+use record::Record;
 use record::field::{a, b, c, d, e, kind};
 use rules::Fault;
 
 // Whether two grants have the same node, run, first and last.
-fn same_grant(new: &[u8], old: &[u8]) -> bool
-    requires { (length new.now ≡ 368) × (length old.now ≡ 368) }
+fn same_grant(new: &Record, old: &Record) -> bool
     ensures { result ≡ grant_eqb (grant_by (decode new.now)) (grant_by (decode old.now)) }
 {
     (a(new) == a(old)) & (c(new) == c(old)) & (d(new) == d(old)) & (e(new) == e(old))
 }
 
 // The case of a grant whose index has one before.
-fn again_case(new: &[u8], old: &[u8]) -> Option<Fault>
-    requires { (length new.now ≡ 368) × (length old.now ≡ 368) }
+fn again_case(new: &Record, old: &Record) -> Option<Fault>
     ensures { result ≡ fault_if (not (grant_eqb (grant_by (decode new.now)) (grant_by (decode old.now)))) (fault 1 ((decode new.now).b ∷ [])) }
 {
     if same_grant(new, old) {
@@ -35,19 +33,18 @@ fn again_case(new: &[u8], old: &[u8]) -> Option<Fault>
 }
 
 // The case of a first grant. A block above every older one shares no id with any, and needs no walk.
-fn first_case(log: &[u8], work: &[u64], count: usize, cap: usize, rec: &[u8]) -> Option<Fault>
-    requires { Bounds log.now work.now count cap × (length rec.now ≡ 368) }
-    ensures { IdsIndexed cap (hist log.now count) work.now → result ≡ first_fault (grant_by (decode rec.now)) (blocks_of (hist log.now count)) }
+fn first_case(past: &Past, rec: &Record) -> Option<Fault>
+    ensures { Indexed IdsIndexed past.now → result ≡ first_fault (grant_by (decode rec.now)) (blocks_of (taken past.now)) }
 {
     let first = d(rec);
     let last = e(rec);
     if last < first {
         return Some(Fault::new(2, &[b(rec)]));
     }
-    if greatest_last(work, cap, count) < first {
+    if greatest_last(past.work, past.cap, past.count) < first {
         return None;
     }
-    let s = shared_with(log, work, count, cap, first, last);
+    let s = shared_with(past, first, last);
     if s.any {
         return Some(Fault::new(3, &[b(rec), s.top]));
     }
@@ -55,16 +52,15 @@ fn first_case(log: &[u8], work: &[u64], count: usize, cap: usize, rec: &[u8]) ->
 }
 
 // The ids case of a record over the records taken.
-pub fn ids(log: &[u8], work: &[u64], count: usize, cap: usize, rec: &[u8]) -> Option<Fault>
-    requires { Bounds log.now work.now count cap × (length rec.now ≡ 368) }
-    ensures { FirstsIndexed cap (hist log.now count) work.now → IdsIndexed cap (hist log.now count) work.now → result ≡ ids_at (decode rec.now) (hist log.now count) }
+pub fn ids(past: &Past, rec: &Record) -> Option<Fault>
+    ensures { Indexed FirstsIndexed past.now → Indexed IdsIndexed past.now → result ≡ ids_at (decode rec.now) (taken past.now) }
 {
     if kind(rec) != 11 {
         return None;
     }
-    let n = grant_at(log, work, count, cap, b(rec));
+    let n = grant_at(past, b(rec));
     if n == 0 {
-        return first_case(log, work, count, cap, rec);
+        return first_case(past, rec);
     }
-    again_case(rec, record_at(log, n - 1))
+    again_case(rec, past.record(n - 1))
 }

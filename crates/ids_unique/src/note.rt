@@ -7,32 +7,33 @@ ghost use Rattle.history.specs.Logs.{hist};
 ghost use Rattle.history.specs.Bounds.{Bounds};
 ghost use Rattle.firsts.specs.Columns.{FirstsIndexed, first_grant};
 ghost use Rattle.ids_unique.specs.Columns.{Marked, IdsNoted};
+ghost use Rattle.history.specs.Pasts.{taken, Indexed};
 
+use history::past::Past;
 use crate::cells::{block_below, greatest_last};
 use firsts::cells::grant_at;
 use firsts::note::enter_grant;
 use history::chain::put;
 use history::place::{BLOCK_LINKS, GREATEST_LAST};
+use record::Record;
 use record::field::{b, d, e, kind};
 
 // Whether a record has a first grant.
-fn is_first(log: &[u8], work: &[u64], count: usize, cap: usize, rec: &[u8]) -> bool
-    requires { Bounds log.now work.now count cap × (length rec.now ≡ 368) }
+fn is_first(past: &Past, rec: &Record) -> bool
     ensures kind { result ≡ true → (decode rec.now).kind ≡ 11 }
-    ensures first { FirstsIndexed cap (hist log.now count) work.now → result ≡ is_some (first_grant (decode rec.now) (hist log.now count)) }
+    ensures first { Indexed FirstsIndexed past.now → result ≡ is_some (first_grant (decode rec.now) (taken past.now)) }
 {
     if kind(rec) != 11 {
         return false;
     }
-    if grant_at(log, work, count, cap, b(rec)) == 0 {
+    if grant_at(past, b(rec)) == 0 {
         return true;
     }
     false
 }
 
 // Whether a grant is not empty.
-fn is_full(rec: &[u8]) -> bool
-    requires { length rec.now ≡ 368 }
+fn is_full(rec: &Record) -> bool
     ensures { result ≡ nonempty (grant_by (decode rec.now)) }
 {
     d(rec) <= e(rec)
@@ -81,8 +82,8 @@ fn mark(work: &mut [u64], count: usize, cap: usize, block: bool, last: u64)
 }
 
 // Takes a record, after those taken, into the columns of `IdsUnique`.
-pub fn note(log: &[u8], work: &mut [u64], count: usize, cap: usize, rec: &[u8])
-    requires { Bounds log.now work.old count cap × ((count < cap) × (length rec.now ≡ 368)) }
+pub fn note(log: &[u8], work: &mut [u64], count: usize, cap: usize, rec: &Record)
+    requires { Bounds log.now work.old count cap × (count < cap) }
     ensures { IdsNoted cap (hist log.now count) (decode rec.now) work.old work.new }
 {
     let first = is_first(log, work, count, cap, rec);

@@ -4,21 +4,23 @@ ghost use Rattle.record.specs.Records.{decode};
 ghost use Rattle.rules.specs.Cases.{fault, fault_if};
 ghost use Rattle.rules.specs.Descriptors.{held_by, first_at_generation};
 ghost use Rattle.rules.specs.MetaNeverGoesBack.{differs_from, named_fault};
-ghost use Rattle.history.specs.Bounds.{Bounds};
-ghost use Rattle.history.specs.Logs.{record_at, hist};
+ghost use Rattle.history.specs.Logs.{record_at};
 ghost use Rattle.descriptors.specs.Columns.{DescriptorsIndexed};
+ghost use Rattle.history.specs.Pasts.{taken, Indexed};
 
+use history::past::Past;
 use crate::fault::descriptor_fault;
 use descriptors::value::first_at_generation;
 use history::held::same_named;
 use history::log::record_at;
+use record::Record;
 use record::field::{a, d};
 use rules::Fault;
 
 // The case of a record by the one that put its descriptor, given by its number: one of those taken, so nothing is said of
 // any other number.
-fn differing_case(log: &[u8], count: usize, number: u64, rec: &[u8]) -> Option<Fault>
-    requires { (368 * count ≤ length log.now) × ((count ≤ 4096) × (length rec.now ≡ 368)) }
+fn differing_case(log: &[u8], count: usize, number: u64, rec: &Record) -> Option<Fault>
+    requires { (368 * count ≤ length log.now) × (count ≤ 4096) }
     ensures { (k : ℕ) → number ≡ suc k → k < count → result ≡ fault_if (differs_from (decode rec.now) (held_by (record_at log.now k))) (fault 2 ((decode rec.now).a ∷ (decode rec.now).d ∷ (decode rec.now).b ∷ [])) }
 {
     if number == 0 {
@@ -35,13 +37,12 @@ fn differing_case(log: &[u8], count: usize, number: u64, rec: &[u8]) -> Option<F
 }
 
 // The case of a record's descriptor: its range has none of that generation, or one that differs.
-pub fn descriptor_case(log: &[u8], work: &[u64], count: usize, cap: usize, rec: &[u8]) -> Option<Fault>
-    requires { Bounds log.now work.now count cap × (length rec.now ≡ 368) }
-    ensures { DescriptorsIndexed cap (hist log.now count) work.now → result ≡ named_fault (decode rec.now) (first_at_generation (decode rec.now).a (decode rec.now).d (hist log.now count)) }
+pub fn descriptor_case(past: &Past, rec: &Record) -> Option<Fault>
+    ensures { Indexed DescriptorsIndexed past.now → result ≡ named_fault (decode rec.now) (first_at_generation (decode rec.now).a (decode rec.now).d (taken past.now)) }
 {
-    let found = first_at_generation(log, work, count, cap, a(rec), d(rec));
+    let found = first_at_generation(past, a(rec), d(rec));
     match found {
-        Some(number) => differing_case(log, count, number, rec),
+        Some(number) => differing_case(past.log, past.count, number, rec),
         None => descriptor_fault(1, rec),
     }
 }

@@ -1,15 +1,15 @@
 // The faults of the check, with their evidence.
-ghost use Rattle.std.specs.Prelude.{◌≡◌, ◌∷◌, [], length};
+ghost use Rattle.std.specs.Prelude.{◌≡◌, ◌∷◌, []};
 ghost use Rattle.record.specs.Records.{decode};
 ghost use Rattle.rules.specs.Cases.{fault};
 ghost use Rattle.rules.specs.MetaNeverGoesBack.{name_by, name_fault};
 
+use record::Record;
 use record::field::{a, b, d};
 use rules::Fault;
 
 // Kinds 1 and 2: range, generation, index.
-pub fn descriptor_fault(kind: u8, rec: &[u8]) -> Option<Fault>
-    requires { length rec.now ≡ 368 }
+pub fn descriptor_fault(kind: u8, rec: &Record) -> Option<Fault>
     ensures { result ≡ fault kind ((decode rec.now).a ∷ (decode rec.now).d ∷ (decode rec.now).b ∷ []) }
 {
     Some(Fault::new(kind, &[a(rec), d(rec), b(rec)]))
@@ -17,8 +17,7 @@ pub fn descriptor_fault(kind: u8, rec: &[u8]) -> Option<Fault>
 
 // Kinds 3 and 4, of a key that a record wins and another named: index, range, generation, old generation, and for kind 4
 // the standing index.
-pub fn name_fault(rec: &[u8], old: &[u8]) -> Option<Fault>
-    requires { (length rec.now ≡ 368) × (length old.now ≡ 368) }
+pub fn name_fault(rec: &Record, old: &Record) -> Option<Fault>
     ensures { result ≡ name_fault (decode rec.now) (name_by (decode old.now)) }
 {
     let index = b(rec);

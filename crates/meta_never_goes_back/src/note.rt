@@ -7,6 +7,7 @@ ghost use Rattle.history.specs.Bounds.{Bounds};
 ghost use Rattle.history.specs.Logs.{hist};
 ghost use Rattle.meta_never_goes_back.specs.Columns.{name_before, MetaNoted};
 
+use record::Record;
 use crate::cells::name_before;
 use crate::opposed::is_highest;
 use crate::won::is_won;
@@ -14,8 +15,8 @@ use history::chain::put;
 use history::place::LATEST_NAME;
 
 // The number of the latest name with one more record.
-fn name_with(work: &[u64], count: usize, cap: usize, rec: &[u8]) -> usize
-    requires { (32 * cap ≤ length work.now) × ((count < cap) × ((cap ≤ 4096) × (length rec.now ≡ 368))) }
+fn name_with(work: &[u64], count: usize, cap: usize, rec: &Record) -> usize
+    requires { (32 * cap ≤ length work.now) × ((count < cap) × (cap ≤ 4096)) }
     ensures { (result ≤ 4096) × (result ≡ cond (is_won (decode rec.now)) (count + 1) (name_before cap work.now count)) }
 {
     if is_won(rec) {
@@ -36,8 +37,8 @@ fn word(number: usize, highest: bool) -> u64
 }
 
 // Writes the word of the record at place count.
-pub fn note(log: &[u8], work: &mut [u64], count: usize, cap: usize, rec: &[u8])
-    requires { Bounds log.now work.old count cap × ((count < cap) × (length rec.now ≡ 368)) }
+pub fn note(log: &[u8], work: &mut [u64], count: usize, cap: usize, rec: &Record)
+    requires { Bounds log.now work.old count cap × (count < cap) }
     ensures { MetaNoted cap (hist log.now count) (decode rec.now) work.old work.new }
 {
     let latest = name_with(work, count, cap, rec);

@@ -6,24 +6,25 @@ ghost use Rattle.rules.specs.Cases.{fault_if, case_of};
 ghost use Rattle.rules.specs.declared.Verdict.TheVariants.{Pass};
 ghost use Rattle.rules.specs.MetaNeverGoesBack.{is_won, name_by, names, covers, name_fault, won_fault, meta_at};
 ghost use Rattle.rules.specs.Reports.{at_last, report_of};
-ghost use Rattle.history.specs.Bounds.{Bounds};
-ghost use Rattle.history.specs.Logs.{record_at, hist};
+ghost use Rattle.history.specs.Logs.{record_at};
 ghost use Rattle.meta_never_goes_back.specs.Columns.{MetaIndexed};
 ghost use Rattle.meta_never_goes_back.specs.Walk.{name_no, stood_with, pull};
+ghost use Rattle.history.specs.Pasts.{taken, Indexed};
 
+use history::past::Past;
 use crate::cells::name_before;
 use crate::fault::name_fault;
 use crate::opposed::any_opposed;
 use crate::won::is_won;
 use history::log::record_at;
 use history::span::{end_of, start_of};
+use record::Record;
 use record::field::b;
 use record::key::key_less;
 use rules::Fault;
 
 // Whether a record's won span has a key.
-fn does_cover(old: &[u8], key: &[u8]) -> bool
-    requires { length old.now ≡ 368 }
+fn does_cover(old: &Record, key: &[u8]) -> bool
     ensures { result ≡ covers (key_in key.now) (name_by (decode old.now)) }
 {
     !key_less(key, start_of(old, 1)) & key_less(key, end_of(old, 1))
@@ -65,8 +66,8 @@ fn nearer<'a>(c: &[u8], x: &'a [u8], b: &'a [u8]) -> &'a [u8]
 }
 
 // The case of a key by the number of the name that stands there.
-fn key_case(log: &[u8], standing: usize, rec: &[u8]) -> Option<Fault>
-    requires { (368 * standing ≤ length log.now) × (length rec.now ≡ 368) }
+fn key_case(log: &[u8], standing: usize, rec: &Record) -> Option<Fault>
+    requires { 368 * standing ≤ length log.now }
     ensures { result ≡ case_of (name_fault (decode rec.now)) (name_no log.now standing) }
 {
     if standing == 0 {
@@ -77,9 +78,8 @@ fn key_case(log: &[u8], standing: usize, rec: &[u8]) -> Option<Fault>
 
 // The fault of the won span: piece by piece in key order, each against the name that stands there, up to the first faulty
 // one. A piece begins at the cursor and goes up to the next end of a name.
-fn walk_case<'a>(log: &'a [u8], work: &[u64], count: usize, cap: usize, rec: &'a [u8]) -> Option<Fault>
-    requires { Bounds log.now work.now count cap × (length rec.now ≡ 368) }
-    ensures { MetaIndexed cap (hist log.now count) work.now → result ≡ won_fault (decode rec.now) (names (hist log.now count)) }
+fn walk_case<'a>(past: &Past, rec: &'a Record) -> Option<Fault>
+    ensures { Indexed MetaIndexed past.now → result ≡ won_fault (decode rec.now) (names (taken past.now)) }
 {
     let start = start_of(rec, 1);
     let end = end_of(rec, 1);
@@ -90,37 +90,36 @@ fn walk_case<'a>(log: &'a [u8], work: &[u64], count: usize, cap: usize, rec: &'a
         }
         let mut standing = 0usize;
         let mut next: &[u8] = end;
-        let mut i = name_before(work, cap, count);
+        let mut i = name_before(past.work, past.cap, past.count);
         loop {
             if i == 0 {
-                let case = key_case(log, standing, rec);
+                let case = key_case(past.log, standing, rec);
                 if case.is_some() {
                     break 'walk case;
                 }
                 break;
             }
             i -= 1;
-            standing = stands(log, cur, standing, i);
-            let old = record_at(log, i);
+            standing = stands(past.log, cur, standing, i);
+            let old = past.record(i);
             let near = nearer(cur, start_of(old, 1), next);
             let nearest = nearer(cur, end_of(old, 1), near);
             next = nearest;
-            i = name_before(work, cap, i);
+            i = name_before(past.work, past.cap, i);
         }
         cur = next;
     }
 }
 
 // The case of the keys that a record wins, while the report is a pass.
-pub fn won_case<'a>(log: &'a [u8], work: &[u64], count: usize, cap: usize, rec: &'a [u8]) -> Option<Fault>
-    requires { Bounds log.now work.now count cap × (length rec.now ≡ 368) }
-    ensures { MetaIndexed cap (hist log.now count) work.now → (report_of (at_last meta_at) (hist log.now count)).verdict ≡ Pass → result ≡ fault_if (is_won (decode rec.now)) (won_fault (decode rec.now) (names (hist log.now count))) }
+pub fn won_case<'a>(past: &Past, rec: &'a Record) -> Option<Fault>
+    ensures { Indexed MetaIndexed past.now → (report_of (at_last meta_at) (taken past.now)).verdict ≡ Pass → result ≡ fault_if (is_won (decode rec.now)) (won_fault (decode rec.now) (names (taken past.now))) }
 {
     if !is_won(rec) {
         return None;
     }
-    if !any_opposed(log, work, count, cap, rec) {
+    if !any_opposed(past, rec) {
         return None;
     }
-    walk_case(log, work, count, cap, rec)
+    walk_case(past, rec)
 }

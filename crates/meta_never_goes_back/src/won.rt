@@ -1,15 +1,15 @@
 // The won span of a record, its second, where it lies.
-ghost use Rattle.std.specs.Prelude.{◌≡◌, length};
+ghost use Rattle.std.specs.Prelude.{◌≡◌};
 ghost use Rattle.record.specs.Records.{decode};
 ghost use Rattle.rules.specs.MetaNeverGoesBack.{is_won};
 
 use history::span::{end_of, start_of};
+use record::Record;
 use record::field::{kind, span_count};
 use record::key::key_less;
 
 // Whether a record names keys: a MetaApplied with a won span whose start is below its end.
-pub fn is_won(rec: &[u8]) -> bool
-    requires { length rec.now ≡ 368 }
+pub fn is_won(rec: &Record) -> bool
     ensures { result ≡ is_won (decode rec.now) }
 {
     if kind(rec) != 12 {

@@ -1,24 +1,24 @@
 // The clauses overlap, install and twice: what each says of a record, judged by it and those before.
-ghost use Rattle.std.specs.Prelude.{◌≡◌, ◌<◌, length};
+ghost use Rattle.std.specs.Prelude.{◌≡◌, ◌<◌};
 ghost use Rattle.record.specs.Records.{decode};
 ghost use Rattle.rules.specs.Descriptors.{span_of};
 ghost use Rattle.rules.specs.OneOwnerPerKey.{overlap_at, install_at, install_fault, twice_at};
-ghost use Rattle.history.specs.Bounds.{Bounds};
-ghost use Rattle.history.specs.Logs.{hist};
 ghost use Rattle.one_owner_per_key.specs.Columns.{OwnersIndexed};
+ghost use Rattle.history.specs.Pasts.{taken, Indexed};
 
+use history::past::Past;
 use crate::group::group_of;
 use crate::held::{held_by, is_holding};
 use crate::meeting::{Others, lowest_meeting};
 use history::span::start_of;
+use record::Record;
 use record::field;
 use record::named::NodeId;
 use rules::Fault;
 
 // overlap: the range that the record makes its node hold, over a span that meets that of another. The Rust's `hold`.
-pub fn overlap(log: &[u8], work: &[u64], count: usize, cap: usize, rec: &[u8]) -> Option<Fault>
-    requires { Bounds log.now work.now count cap × (length rec.now ≡ 368) }
-    ensures { OwnersIndexed cap (hist log.now count) work.now → result ≡ overlap_at (decode rec.now) (hist log.now count) }
+pub fn overlap(past: &Past, rec: &Record) -> Option<Fault>
+    ensures { Indexed OwnersIndexed past.now → result ≡ overlap_at (decode rec.now) (taken past.now) }
 {
     let marked = field::node(rec);
     let Some(node) = marked else {
@@ -28,33 +28,19 @@ pub fn overlap(log: &[u8], work: &[u64], count: usize, cap: usize, rec: &[u8]) -
         return None;
     }
     let range = field::a(rec);
-    let other = lowest_meeting(log, work, count, cap, node, rec, 0, Others::Than(range))?;
+    let other = lowest_meeting(past, node, rec, 0, Others::Than(range))?;
     Some(Fault::new(1, &[node.0 as u64, range, other]))
 }
 
 // The case of install, of one span. The Rust's `replaced`.
-fn replaced_case(
-    log: &[u8],
-    work: &[u64],
-    count: usize,
-    cap: usize,
-    rec: &[u8],
-    tenant: u64,
-    node: NodeId,
-    k: usize,
-) -> Option<Fault>
-    requires { Bounds log.now work.now count cap × ((length rec.now ≡ 368) × (k < 4)) }
-    ensures { OwnersIndexed cap (hist log.now count) work.now → result ≡ install_fault tenant (decode rec.now) (hist log.now count) node.0 (span_of k (decode rec.now)) }
+fn replaced_case(past: &Past, rec: &Record, tenant: u64, node: NodeId, k: usize) -> Option<Fault>
+    requires { k < 4 }
+    ensures { Indexed OwnersIndexed past.now → result ≡ install_fault tenant (decode rec.now) (taken past.now) node.0 (span_of k (decode rec.now)) }
 {
     if group_of(start_of(rec, k), tenant).is_some() {
         return None;
     }
-    let range = lowest_meeting(
-        log,
-        work,
-        count,
-        cap,
-        node,
+    let range = lowest_meeting(past, node,
         rec,
         k,
         Others::NotNamed(tenant),
@@ -63,9 +49,8 @@ fn replaced_case(
 }
 
 // install: the first span of a kind 8 that names no group and meets a range that no start in the record names.
-pub fn install(log: &[u8], work: &[u64], count: usize, cap: usize, rec: &[u8], tenant: u64) -> Option<Fault>
-    requires { Bounds log.now work.now count cap × (length rec.now ≡ 368) }
-    ensures { OwnersIndexed cap (hist log.now count) work.now → result ≡ install_at tenant (decode rec.now) (hist log.now count) }
+pub fn install(past: &Past, rec: &Record, tenant: u64) -> Option<Fault>
+    ensures { Indexed OwnersIndexed past.now → result ≡ install_at tenant (decode rec.now) (taken past.now) }
 {
     let marked = field::node(rec);
     let Some(node) = marked else {
@@ -77,7 +62,7 @@ pub fn install(log: &[u8], work: &[u64], count: usize, cap: usize, rec: &[u8], t
     let n = field::span_count(rec);
     let mut k = 0usize;
     while k < n {
-        let c = replaced_case(log, work, count, cap, rec, tenant, node, k);
+        let c = replaced_case(past, rec, tenant, node, k);
         if c.is_some() {
             return c;
         }
@@ -87,9 +72,8 @@ pub fn install(log: &[u8], work: &[u64], count: usize, cap: usize, rec: &[u8], t
 }
 
 // twice: a RangeCreated of a range that its node holds already.
-pub fn twice(log: &[u8], work: &[u64], count: usize, cap: usize, rec: &[u8]) -> Option<Fault>
-    requires { Bounds log.now work.now count cap × (length rec.now ≡ 368) }
-    ensures { OwnersIndexed cap (hist log.now count) work.now → result ≡ twice_at (decode rec.now) (hist log.now count) }
+pub fn twice(past: &Past, rec: &Record) -> Option<Fault>
+    ensures { Indexed OwnersIndexed past.now → result ≡ twice_at (decode rec.now) (taken past.now) }
 {
     let marked = field::node(rec);
     let Some(node) = marked else {
@@ -99,7 +83,7 @@ pub fn twice(log: &[u8], work: &[u64], count: usize, cap: usize, rec: &[u8]) -> 
         return None;
     }
     let range = field::a(rec);
-    if held_by(log, work, count, cap, count, node, range).is_some() {
+    if held_by(past, past.count, node, range).is_some() {
         return Some(Fault::new(1, &[node.0 as u64, range, field::b(rec)]));
     }
     None

@@ -7,6 +7,7 @@ ghost use Rattle.rules.specs.History.{holds};
 ghost use Rattle.rules.specs.OneOwnerPerKey.{group_of, is_named};
 
 use history::span::start_of;
+use record::Record;
 use record::field::span_count;
 use record::key::key;
 use record::number::{wide32, wide64};
@@ -51,8 +52,7 @@ fn names(place: &[u8], tenant: u64, range: u64) -> bool
 }
 
 // Whether a start in the record names a range.
-pub fn is_named(rec: &[u8], tenant: u64, range: u64) -> bool
-    requires { length rec.now ≡ 368 }
+pub fn is_named(rec: &Record, tenant: u64, range: u64) -> bool
     ensures { result ≡ is_named tenant (decode rec.now).spans range }
 {
     let n = span_count(rec);

@@ -1,23 +1,23 @@
 // The lowest range that a node holds over a span that meets a record's. The ranges are those that the node came to hold
 // since its latest end, newest first: what it holds is among them.
-ghost use Rattle.std.specs.Prelude.{◌≡◌, cond, ◌&&◌, ◌<◌, length};
+ghost use Rattle.std.specs.Prelude.{◌≡◌, cond, ◌&&◌, ◌<◌};
 ghost use Rattle.record.specs.Records.{decode};
 ghost use Rattle.rules.specs.History.{holds, lower};
 ghost use Rattle.rules.specs.Descriptors.{span_of};
 ghost use Rattle.rules.specs.OneOwnerPerKey.{hold_of, lowest_meeting};
 ghost use Rattle.rules.specs.OneOwnerPerKey as rule;
-ghost use Rattle.history.specs.Bounds.{Bounds};
-ghost use Rattle.history.specs.Logs.{hist};
 ghost use Rattle.one_owner_per_key.specs.Numbers.{latest_end};
 ghost use Rattle.one_owner_per_key.specs.Columns.{OwnersIndexed};
 ghost use Rattle.one_owner_per_key.specs.Answers.{is_below};
 ghost use Rattle.one_owner_per_key.specs.Answers as answer;
+ghost use Rattle.history.specs.Pasts.{taken, Indexed};
 
+use history::past::Past;
 use crate::cells::{end_by, latest_newly, newly_before};
 use crate::group::is_named;
 use crate::held::{held_after, latest_of};
-use history::log::record_at;
 use history::span::{end_of, start_of};
+use record::Record;
 use record::field;
 use record::key::key_less;
 use record::named::NodeId;
@@ -30,8 +30,7 @@ pub enum Others {
 }
 
 // Whether a range is among those that may not be met.
-fn passes(rec: &[u8], others: Others, range: u64) -> bool
-    requires { length rec.now ≡ 368 }
+fn passes(rec: &Record, others: Others, range: u64) -> bool
     ensures { result ≡ answer.passes others (decode rec.now).spans range }
 {
     match others {
@@ -41,8 +40,8 @@ fn passes(rec: &[u8], others: Others, range: u64) -> bool
 }
 
 // Whether the first span of a record meets a span of another: "from < end and start < to".
-fn meets(rec: &[u8], k: usize, other: &[u8]) -> bool
-    requires { (length rec.now ≡ 368) × ((k < 4) × (length other.now ≡ 368)) }
+fn meets(rec: &Record, k: usize, other: &Record) -> bool
+    requires { k < 4 }
     ensures { result ≡ rule.meets (span_of k (decode rec.now)) (span_of 0 (decode other.now)) }
 {
     if key_less(start_of(other, 0), end_of(rec, k)) {
@@ -53,25 +52,15 @@ fn meets(rec: &[u8], k: usize, other: &[u8]) -> bool
 }
 
 // Whether a node holds a range over a span that meets the record's.
-fn is_met(
-    log: &[u8],
-    work: &[u64],
-    count: usize,
-    cap: usize,
-    node: NodeId,
-    range: u64,
-    ended: usize,
-    rec: &[u8],
-    k: usize,
-) -> bool
-    requires { Bounds log.now work.now count cap × ((length rec.now ≡ 368) × (k < 4)) }
-    ensures { OwnersIndexed cap (hist log.now count) work.now → ended ≡ latest_end node.0 (hist log.now count) → result ≡ holds (rule.meets (span_of k (decode rec.now))) (hold_of node.0 range (hist log.now count)) }
+fn is_met(past: &Past, node: NodeId, range: u64, ended: usize, rec: &Record, k: usize) -> bool
+    requires { k < 4 }
+    ensures { Indexed OwnersIndexed past.now → ended ≡ latest_end node.0 (taken past.now) → result ≡ holds (rule.meets (span_of k (decode rec.now))) (hold_of node.0 range (taken past.now)) }
 {
-    let i = held_after(log, work, count, cap, count, node, range, ended);
+    let i = held_after(past, past.count, node, range, ended);
     if i == 0 {
         return false;
     }
-    meets(rec, k, record_at(log, i - 1))
+    meets(rec, k, past.record(i - 1))
 }
 
 // Whether a range is below the lowest so far.
@@ -82,25 +71,13 @@ fn is_below(range: u64, best: Option<u64>) -> bool
 }
 
 // The lowest so far, with a range more.
-fn lowered(
-    log: &[u8],
-    work: &[u64],
-    count: usize,
-    cap: usize,
-    node: NodeId,
-    range: u64,
-    ended: usize,
-    rec: &[u8],
-    k: usize,
-    others: Others,
-    best: Option<u64>,
-) -> Option<u64>
-    requires { Bounds log.now work.now count cap × ((length rec.now ≡ 368) × (k < 4)) }
-    ensures { OwnersIndexed cap (hist log.now count) work.now → ended ≡ latest_end node.0 (hist log.now count) → result ≡ cond (answer.passes others (decode rec.now).spans range && holds (rule.meets (span_of k (decode rec.now))) (hold_of node.0 range (hist log.now count))) (lower (λ n. n) range best) best }
+fn lowered(past: &Past, node: NodeId, range: u64, ended: usize, rec: &Record, k: usize, others: Others, best: Option<u64>) -> Option<u64>
+    requires { k < 4 }
+    ensures { Indexed OwnersIndexed past.now → ended ≡ latest_end node.0 (taken past.now) → result ≡ cond (answer.passes others (decode rec.now).spans range && holds (rule.meets (span_of k (decode rec.now))) (hold_of node.0 range (taken past.now))) (lower (λ n. n) range best) best }
 {
     if is_below(range, best) {
         if passes(rec, others, range) {
-            if is_met(log, work, count, cap, node, range, ended, rec, k) {
+            if is_met(past, node, range, ended, rec, k) {
                 return Some(range);
             }
         }
@@ -109,29 +86,19 @@ fn lowered(
 }
 
 // The lowest range that may not be met and that a node holds over a span that meets the record's.
-pub fn lowest_meeting(
-    log: &[u8],
-    work: &[u64],
-    count: usize,
-    cap: usize,
-    node: NodeId,
-    rec: &[u8],
-    k: usize,
-    others: Others,
-) -> Option<u64>
-    requires { Bounds log.now work.now count cap × ((length rec.now ≡ 368) × (k < 4)) }
-    ensures { OwnersIndexed cap (hist log.now count) work.now → result ≡ lowest_meeting (answer.passes others (decode rec.now).spans) (span_of k (decode rec.now)) node.0 (hist log.now count) }
+pub fn lowest_meeting(past: &Past, node: NodeId, rec: &Record, k: usize, others: Others) -> Option<u64>
+    requires { k < 4 }
+    ensures { Indexed OwnersIndexed past.now → result ≡ lowest_meeting (answer.passes others (decode rec.now).spans) (span_of k (decode rec.now)) node.0 (taken past.now) }
 {
-    let last = latest_of(log, work, count, cap, count, node);
-    let ended = end_by(work, cap, last);
+    let last = latest_of(past, past.count, node);
+    let ended = end_by(past.work, past.cap, last);
     let mut best = None;
-    let mut i = latest_newly(work, cap, last);
+    let mut i = latest_newly(past.work, past.cap, last);
     while ended < i {
-        let range = field::a(record_at(log, i - 1));
-        best = lowered(
-            log, work, count, cap, node, range, ended, rec, k, others, best,
+        let range = field::a(past.record(i - 1));
+        best = lowered(past, node, range, ended, rec, k, others, best,
         );
-        i = newly_before(work, cap, i);
+        i = newly_before(past.work, past.cap, i);
     }
     best
 }

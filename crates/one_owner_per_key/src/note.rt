@@ -9,11 +9,14 @@ ghost use Rattle.history.specs.Logs.{hist};
 ghost use Rattle.history.specs.Places.{hold_heads, hold_links};
 ghost use Rattle.one_owner_per_key.specs.Numbers.{latest_end};
 ghost use Rattle.one_owner_per_key.specs.Columns.{OwnersIndexed, OwnersNoted, is_chained, bit, newly_cell, ended_cell, EnteredIf};
+ghost use Rattle.history.specs.Pasts.{taken, Indexed};
 
+use history::past::Past;
 use crate::cells::{end_by, hold_bucket, latest_newly, node_bucket};
 use crate::held::{held_after, is_holding, latest_of};
 use history::chain::{enter, put};
 use history::place::{ENDED_AT, HOLD_HEADS, HOLD_LINKS, NEWLY_HELD, NODE_HEADS, NODE_LINKS};
+use record::Record;
 use record::field;
 use record::named::NodeId;
 
@@ -25,8 +28,7 @@ pub struct Cells {
 }
 
 // Whether a record is chained by its node and range.
-fn is_chained(rec: &[u8]) -> bool
-    requires { length rec.now ≡ 368 }
+fn is_chained(rec: &Record) -> bool
     ensures { result ≡ is_chained (decode rec.now) }
 {
     let kind = field::kind(rec);
@@ -34,8 +36,7 @@ fn is_chained(rec: &[u8]) -> bool
 }
 
 // Whether a record ends all that its node holds.
-fn is_end(rec: &[u8]) -> bool
-    requires { length rec.now ≡ 368 }
+fn is_end(rec: &Record) -> bool
     ensures { result ≡ is_kind 6 (decode rec.now) || is_kind 10 (decode rec.now) }
 {
     let kind = field::kind(rec);
@@ -43,23 +44,14 @@ fn is_end(rec: &[u8]) -> bool
 }
 
 // 1 where a record makes a node hold a range that it does not hold, else 0.
-fn newly(
-    log: &[u8],
-    work: &[u64],
-    count: usize,
-    cap: usize,
-    rec: &[u8],
-    node: NodeId,
-    ended: usize,
-) -> u64
-    requires { Bounds log.now work.now count cap × (length rec.now ≡ 368) }
+fn newly(past: &Past, rec: &Record, node: NodeId, ended: usize) -> u64
     ensures within { result ≤ 1 }
-    ensures newly { OwnersIndexed cap (hist log.now count) work.now → ended ≡ latest_end node.0 (hist log.now count) → result ≡ bit (is_holding (decode rec.now) && not (has_hold node.0 (decode rec.now).a (hist log.now count))) }
+    ensures newly { Indexed OwnersIndexed past.now → ended ≡ latest_end node.0 (taken past.now) → result ≡ bit (is_holding (decode rec.now) && not (has_hold node.0 (decode rec.now).a (taken past.now))) }
 {
     if !is_holding(rec) {
         return 0;
     }
-    if held_after(log, work, count, cap, count, node, field::a(rec), ended) == 0 {
+    if held_after(past, past.count, node, field::a(rec), ended) == 0 {
         1
     } else {
         0
@@ -67,23 +59,23 @@ fn newly(
 }
 
 // The number of a node's latest end with a record of its own, the next.
-fn end_with(rec: &[u8], count: usize, ended: usize) -> usize
-    requires { (length rec.now ≡ 368) × (count < 4096) }
+fn end_with(rec: &Record, count: usize, ended: usize) -> usize
+    requires { count < 4096 }
     ensures { result ≡ cond (is_kind 6 (decode rec.now) || is_kind 10 (decode rec.now)) (count + 1) ended }
 {
     if is_end(rec) { count + 1 } else { ended }
 }
 
 // The cells of a marked record.
-fn cells_of(log: &[u8], work: &[u64], count: usize, cap: usize, rec: &[u8], node: NodeId) -> Cells
-    requires { Bounds log.now work.now count cap × ((count < cap) × (length rec.now ≡ 368)) }
-    ensures { OwnersIndexed cap (hist log.now count) work.now → (decode rec.now).node ≡ Some node → (result.newly ≡ newly_cell (decode rec.now) (hist log.now count)) × (result.ended ≡ ended_cell (decode rec.now) (hist log.now count)) }
+fn cells_of(past: &Past, rec: &Record, node: NodeId) -> Cells
+    requires { past.now.count < past.now.cap }
+    ensures { Indexed OwnersIndexed past.now → (decode rec.now).node ≡ Some node → (result.newly ≡ newly_cell (decode rec.now) (taken past.now)) × (result.ended ≡ ended_cell (decode rec.now) (taken past.now)) }
 {
-    let last = latest_of(log, work, count, cap, count, node);
-    let ended = end_by(work, cap, last);
-    let n = newly(log, work, count, cap, rec, node, ended);
-    let before = latest_newly(work, cap, last);
-    let end = end_with(rec, count, ended);
+    let last = latest_of(past, past.count, node);
+    let ended = end_by(past.work, past.cap, last);
+    let n = newly(past, rec, node, ended);
+    let before = latest_newly(past.work, past.cap, last);
+    let end = end_with(rec, past.count, ended);
     Cells {
         newly: 2 * (before as u64) + n,
         ended: end as u64,
@@ -91,8 +83,8 @@ fn cells_of(log: &[u8], work: &[u64], count: usize, cap: usize, rec: &[u8], node
 }
 
 // Enters a record into the chain of its node and range, where it is one of those chained.
-fn enter_hold(work: &mut [u64], count: usize, cap: usize, rec: &[u8], node: NodeId)
-    requires { (32 * cap ≤ length work.old) × ((count < cap) × ((cap ≤ 4096) × (length rec.now ≡ 368))) }
+fn enter_hold(work: &mut [u64], count: usize, cap: usize, rec: &Record, node: NodeId)
+    requires { (32 * cap ≤ length work.old) × ((count < cap) × (cap ≤ 4096)) }
     ensures { EnteredIf (is_chained (decode rec.now)) work.old work.new (hold_heads * cap) (hold_links * cap) count (bucket_by_two cap node.0 (decode rec.now).a) }
 {
     if !is_chained(rec) {
@@ -108,8 +100,8 @@ fn enter_hold(work: &mut [u64], count: usize, cap: usize, rec: &[u8], node: Node
 }
 
 // Notes a record as the next: before or after it is written to the log. One without a node leaves everything as it is.
-pub fn note(log: &[u8], work: &mut [u64], count: usize, cap: usize, rec: &[u8])
-    requires { Bounds log.now work.old count cap × ((count < cap) × (length rec.now ≡ 368)) }
+pub fn note(log: &[u8], work: &mut [u64], count: usize, cap: usize, rec: &Record)
+    requires { Bounds log.now work.old count cap × (count < cap) }
     ensures { OwnersNoted cap (hist log.now count) (decode rec.now) work.old work.new }
 {
     let marked = field::node(rec);

@@ -10,18 +10,20 @@ ghost use Rattle.history.specs.Bounds.{Bounds};
 ghost use Rattle.splits.specs.Numbers.{pending_number};
 ghost use Rattle.splits.specs.Columns.{Known, HalfNoted, Celled, CellsPut, EnteredWhen, server_in, number_in, registering_in, split_bucket, recorded_bucket};
 ghost use Rattle.splits.specs.Splits.{parent_by};
+ghost use Rattle.history.specs.Pasts.{taken, Indexed};
 
+use history::past::Past;
 use crate::cells::{
     pending_by, recorded_bucket, refused_by, registering_by, restated_by, server_by, split_bucket,
 };
 use crate::split::{parent_of, registers, uses_up};
 use history::chain::{enter, put};
-use history::log::record_at;
 use history::place::{
     PENDING_AT, RECORDED_HEADS, RECORDED_LINKS, REFUSED_AT, REGISTERED_BY, RESTATED_AT, SERVER_AT,
     SPLIT_HEADS, SPLIT_LINKS,
 };
 use one_owner_per_key::held::latest_of;
+use record::Record;
 use record::field;
 use record::named::NodeId;
 
@@ -39,8 +41,8 @@ pub struct Cells {
 }
 
 // The server of a record's node, with the record.
-fn server_with(work: &[u64], cap: usize, rec: &[u8], last: usize, node: NodeId) -> u64
-    requires { (32 * cap ≤ length work.now) × ((last ≤ cap) × ((cap ≤ 4096) × (length rec.now ≡ 368))) }
+fn server_with(work: &[u64], cap: usize, rec: &Record, last: usize, node: NodeId) -> u64
+    requires { (32 * cap ≤ length work.now) × ((last ≤ cap) × (cap ≤ 4096)) }
     ensures { result ≡ cond (is_kind 4 (decode rec.now)) (decode rec.now).c (server_in work.now cap last node.0) }
 {
     if field::kind(rec) == 4 {
@@ -50,8 +52,8 @@ fn server_with(work: &[u64], cap: usize, rec: &[u8], last: usize, node: NodeId) 
 }
 
 // The number of its latest RangesRestated since a crash.
-fn restated_with(work: &[u64], cap: usize, count: usize, rec: &[u8], last: usize) -> usize
-    requires { (32 * cap ≤ length work.now) × ((last ≤ cap) × ((cap ≤ 4096) × ((count < cap) × (length rec.now ≡ 368)))) }
+fn restated_with(work: &[u64], cap: usize, count: usize, rec: &Record, last: usize) -> usize
+    requires { (32 * cap ≤ length work.now) × ((last ≤ cap) × ((cap ≤ 4096) × (count < cap))) }
     ensures { result ≡ cond (is_kind 5 (decode rec.now)) (count + 1) (cond (is_kind 6 (decode rec.now)) 0 (number_in (restated_at * cap) work.now last)) }
 {
     let kind = field::kind(rec);
@@ -65,8 +67,8 @@ fn restated_with(work: &[u64], cap: usize, count: usize, rec: &[u8], last: usize
 }
 
 // The number of its latest refusal.
-fn refused_with(work: &[u64], cap: usize, count: usize, rec: &[u8], last: usize) -> usize
-    requires { (32 * cap ≤ length work.now) × ((last ≤ cap) × ((cap ≤ 4096) × ((count < cap) × (length rec.now ≡ 368)))) }
+fn refused_with(work: &[u64], cap: usize, count: usize, rec: &Record, last: usize) -> usize
+    requires { (32 * cap ≤ length work.now) × ((last ≤ cap) × ((cap ≤ 4096) × (count < cap))) }
     ensures { result ≡ cond (is_kind 10 (decode rec.now)) (count + 1) (number_in (refused_at * cap) work.now last) }
 {
     if field::kind(rec) == 10 {
@@ -76,29 +78,22 @@ fn refused_with(work: &[u64], cap: usize, count: usize, rec: &[u8], last: usize)
 }
 
 // The number of its pending RangeSplit.
-fn pending_with(
-    log: &[u8],
-    work: &[u64],
-    count: usize,
-    cap: usize,
-    rec: &[u8],
-    last: usize,
-) -> usize
-    requires { Bounds log.now work.now count cap × ((length rec.now ≡ 368) × (last ≤ count)) }
-    ensures { Known cap (hist log.now count) work.now → (node : ℕ) → last ≡ latest_by node (hist log.now count) → is_by node (decode rec.now) ≡ true → result ≡ pending_number node (decode rec.now ∷ hist log.now count) }
+fn pending_with(past: &Past, rec: &Record, last: usize) -> usize
+    requires { last ≤ past.now.count }
+    ensures { Indexed Known past.now → (node : ℕ) → last ≡ latest_by node (taken past.now) → is_by node (decode rec.now) ≡ true → result ≡ pending_number node (decode rec.now ∷ taken past.now) }
 {
     let kind = field::kind(rec);
     if kind == 7 {
-        return count + 1;
+        return past.count + 1;
     }
     if (kind == 6) | (kind == 10) {
         return 0;
     }
-    let k = pending_by(work, cap, last);
+    let k = pending_by(past.work, past.cap, last);
     if k == 0 {
         return 0;
     }
-    if uses_up(rec, record_at(log, k - 1)) {
+    if uses_up(rec, past.record(k - 1)) {
         0
     } else {
         k
@@ -117,17 +112,17 @@ fn registered_with(work: &[u64], cap: usize, count: usize, named: usize) -> u64
 }
 
 // Whether it records an index: a RangeDescriptor of a node that is not restated.
-fn records_with(work: &[u64], cap: usize, rec: &[u8], last: usize) -> bool
-    requires { (32 * cap ≤ length work.now) × ((last ≤ cap) × ((cap ≤ 4096) × (length rec.now ≡ 368))) }
+fn records_with(work: &[u64], cap: usize, rec: &Record, last: usize) -> bool
+    requires { (32 * cap ≤ length work.now) × ((last ≤ cap) × (cap ≤ 4096)) }
     ensures { result ≡ (is_kind 2 (decode rec.now) && eqb (number_in (restated_at * cap) work.now last) 0) }
 {
     (field::kind(rec) == 2) & (restated_by(work, cap, last) == 0)
 }
 
 // The cells of a record.
-fn cells_of(log: &[u8], work: &[u64], count: usize, cap: usize, rec: &[u8]) -> Cells
-    requires { Bounds log.now work.now count cap × ((count < cap) × (length rec.now ≡ 368)) }
-    ensures { Known cap (hist log.now count) work.now → Celled (decode rec.now) (hist log.now count) result }
+fn cells_of(past: &Past, rec: &Record) -> Cells
+    requires { past.now.count < past.now.cap }
+    ensures { Indexed Known past.now → Celled (decode rec.now) (taken past.now) result }
 {
     let marked = field::node(rec);
     let Some(node) = marked else {
@@ -136,21 +131,21 @@ fn cells_of(log: &[u8], work: &[u64], count: usize, cap: usize, rec: &[u8]) -> C
             restated: 0,
             refused: 0,
             pending: 0,
-            registered: registered_with(work, cap, count, 0),
+            registered: registered_with(past.work, past.cap, past.count, 0),
             named: 0,
             records: false,
         };
     };
-    let last = latest_of(log, work, count, cap, count, node);
-    let named = registers(log, work, count, cap, rec, last);
+    let last = latest_of(past, past.count, node);
+    let named = registers(past, rec, last);
     Cells {
-        server: server_with(work, cap, rec, last, node),
-        restated: restated_with(work, cap, count, rec, last) as u64,
-        refused: refused_with(work, cap, count, rec, last) as u64,
-        pending: pending_with(log, work, count, cap, rec, last) as u64,
-        registered: registered_with(work, cap, count, named),
+        server: server_with(past.work, past.cap, rec, last, node),
+        restated: restated_with(past.work, past.cap, past.count, rec, last) as u64,
+        refused: refused_with(past.work, past.cap, past.count, rec, last) as u64,
+        pending: pending_with(past, rec, last) as u64,
+        registered: registered_with(past.work, past.cap, past.count, named),
         named: named,
-        records: records_with(work, cap, rec, last),
+        records: records_with(past.work, past.cap, rec, last),
     }
 }
 
@@ -167,8 +162,8 @@ fn put_cells(work: &mut [u64], cap: usize, count: usize, cells: Cells)
 }
 
 // Enters a record that registers a split into the chain of its parent and index.
-fn enter_split(work: &mut [u64], cap: usize, count: usize, rec: &[u8], named: usize)
-    requires { (32 * cap ≤ length work.old) × ((count < cap) × ((cap ≤ 4096) × (length rec.now ≡ 368))) }
+fn enter_split(work: &mut [u64], cap: usize, count: usize, rec: &Record, named: usize)
+    requires { (32 * cap ≤ length work.old) × ((count < cap) × (cap ≤ 4096)) }
     ensures { EnteredWhen (not (eqb named 0)) work.old work.new (split_heads * cap) (split_links * cap) count (split_bucket cap (parent_by (decode rec.now)) (decode rec.now).b) }
 {
     if named == 0 {
@@ -184,8 +179,8 @@ fn enter_split(work: &mut [u64], cap: usize, count: usize, rec: &[u8], named: us
 }
 
 // Enters a record that records an index into the chain of its range.
-fn enter_recording(work: &mut [u64], cap: usize, count: usize, rec: &[u8], records: bool)
-    requires { (32 * cap ≤ length work.old) × ((count < cap) × ((cap ≤ 4096) × (length rec.now ≡ 368))) }
+fn enter_recording(work: &mut [u64], cap: usize, count: usize, rec: &Record, records: bool)
+    requires { (32 * cap ≤ length work.old) × ((count < cap) × (cap ≤ 4096)) }
     ensures { EnteredWhen records work.old work.new (recorded_heads * cap) (recorded_links * cap) count (recorded_bucket cap (decode rec.now).a) }
 {
     if !records {
@@ -201,8 +196,8 @@ fn enter_recording(work: &mut [u64], cap: usize, count: usize, rec: &[u8], recor
 }
 
 // Notes a record as the next: before or after it is written to the log.
-pub fn note(log: &[u8], work: &mut [u64], count: usize, cap: usize, rec: &[u8])
-    requires { Bounds log.now work.old count cap × ((count < cap) × (length rec.now ≡ 368)) }
+pub fn note(log: &[u8], work: &mut [u64], count: usize, cap: usize, rec: &Record)
+    requires { Bounds log.now work.old count cap × (count < cap) }
     ensures { HalfNoted cap (hist log.now count) (decode rec.now) work.old work.new }
 {
     let cells = cells_of(log, work, count, cap, rec);

@@ -7,35 +7,34 @@ ghost use Rattle.rules.specs.GenerationsRise.{has_effect};
 ghost use Rattle.rules.specs.RightHalf.{created_split, pending_by, uses_up};
 ghost use Rattle.history.specs.Logs.{hist};
 ghost use Rattle.one_owner_per_key.specs.Numbers.{latest_by};
-ghost use Rattle.history.specs.Bounds.{Bounds};
 ghost use Rattle.splits.specs.Numbers.{split_number, names_number, named_number};
 ghost use Rattle.splits.specs.Columns.{Known};
 ghost use Rattle.splits.specs.Splits.{parent_by, right_by};
+ghost use Rattle.history.specs.Pasts.{taken, Indexed};
 
+use history::past::Past;
 use crate::cells::{pending_by, split_below, split_top};
 use history::log::record_at;
+use record::Record;
 use record::field;
 use record::named::{NodeId, ServerId};
 
 // Whether a record is a RaftApply that took.
-pub fn has_taken(rec: &[u8]) -> bool
-    requires { length rec.now ≡ 368 }
+pub fn has_taken(rec: &Record) -> bool
     ensures { result ≡ has_effect Took (decode rec.now) }
 {
     (field::kind(rec) == 3) & (field::code(rec) == 4)
 }
 
 // Whether a record is a RangeCreated by a split, with a parent.
-fn is_created(rec: &[u8]) -> bool
-    requires { length rec.now ≡ 368 }
+fn is_created(rec: &Record) -> bool
     ensures { result ≡ is_some (created_split (decode rec.now)) }
 {
     (field::kind(rec) == 1) & (field::code(rec) == 2) & (field::flag(rec) == 1)
 }
 
 // Whether a record is a RangeDescriptor at the range and index of a RangeSplit.
-pub fn uses_up(rec: &[u8], split: &[u8]) -> bool
-    requires { (length rec.now ≡ 368) × (length split.now ≡ 368) }
+pub fn uses_up(rec: &Record, split: &Record) -> bool
     ensures { result ≡ uses_up (decode rec.now) (pending_by (decode split.now)) }
 {
     (field::kind(rec) == 2)
@@ -44,8 +43,7 @@ pub fn uses_up(rec: &[u8], split: &[u8]) -> bool
 }
 
 // The parent of the split that a record registers: kind 1 names it, kind 2 is its own.
-pub fn parent_of(rec: &[u8]) -> u64
-    requires { length rec.now ≡ 368 }
+pub fn parent_of(rec: &Record) -> u64
     ensures { result ≡ parent_by (decode rec.now) }
 {
     if field::kind(rec) == 1 {
@@ -55,8 +53,8 @@ pub fn parent_of(rec: &[u8]) -> u64
 }
 
 // Its right range: kind 1 is its own, and for kind 2 the RangeSplit with the number `named` names it.
-pub fn right_of(log: &[u8], count: usize, rec: &[u8], named: usize) -> u64
-    requires { (368 * count ≤ length log.now) × (length rec.now ≡ 368) }
+pub fn right_of(log: &[u8], count: usize, rec: &Record, named: usize) -> u64
+    requires { 368 * count ≤ length log.now }
     ensures { (is_kind 1 (decode rec.now) ≡ false → (0 < named) × (named ≤ count)) → result ≡ right_by log.now (decode rec.now) named }
 {
     if field::kind(rec) == 1 {
@@ -69,16 +67,14 @@ pub fn right_of(log: &[u8], count: usize, rec: &[u8], named: usize) -> u64
 }
 
 // Whether a record that registers a split registers that of a parent at an index.
-fn is_split(rec: &[u8], parent: u64, index: u64) -> bool
-    requires { length rec.now ≡ 368 }
+fn is_split(rec: &Record, parent: u64, index: u64) -> bool
     ensures { result ≡ (eqb (parent_by (decode rec.now)) parent && eqb (decode rec.now).b index) }
 {
     (parent_of(rec) == parent) & (field::b(rec) == index)
 }
 
 // Whether a server is a voter of a record.
-pub fn is_voter(rec: &[u8], server: ServerId) -> bool
-    requires { length rec.now ≡ 368 }
+pub fn is_voter(rec: &Record, server: ServerId) -> bool
     ensures { result ≡ any_of (λ v. eqb v server.0) (decode rec.now).voters }
 {
     let n = field::voter_count(rec);
@@ -93,45 +89,37 @@ pub fn is_voter(rec: &[u8], server: ServerId) -> bool
 }
 
 // The number of the record that registered a split, 0 where it is not registered as of the first top records.
-pub fn split_of(
-    log: &[u8],
-    work: &[u64],
-    count: usize,
-    cap: usize,
-    top: usize,
-    parent: u64,
-    index: u64,
-) -> usize
-    requires { Bounds log.now work.now count cap × (top ≤ count) }
+pub fn split_of(past: &Past, top: usize, parent: u64, index: u64) -> usize
+    requires { top ≤ past.now.count }
     ensures within { result ≤ top }
-    ensures latest { Known cap (hist log.now count) work.now → result ≡ split_number parent index (hist log.now top) }
+    ensures latest { Indexed Known past.now → result ≡ split_number parent index (hist past.now.log.now top) }
 {
-    let mut i = split_top(work, cap, count, parent, index);
+    let mut i = split_top(past.work, past.cap, past.count, parent, index);
     while 0 < i {
         let at = i - 1;
-        if (i <= top) & is_split(record_at(log, at), parent, index) {
+        if (i <= top) & is_split(past.record(at), parent, index) {
             return i;
         }
-        i = split_below(work, cap, at);
+        i = split_below(past.work, past.cap, at);
     }
     0
 }
 
 // The number of the record that names the right range of the split that a record names, 0 where it names none: its own,
 // or that of its node's pending RangeSplit. `last` is the node's latest record.
-fn names(log: &[u8], work: &[u64], count: usize, cap: usize, rec: &[u8], last: usize) -> usize
-    requires { Bounds log.now work.now count cap × ((length rec.now ≡ 368) × (last ≤ count)) }
-    ensures within { result ≤ count + 1 }
-    ensures names { Known cap (hist log.now count) work.now → (node : ℕ) → last ≡ latest_by node (hist log.now count) → result ≡ names_number node (decode rec.now) (hist log.now count) }
+fn names(past: &Past, rec: &Record, last: usize) -> usize
+    requires { last ≤ past.now.count }
+    ensures within { result ≤ past.now.count + 1 }
+    ensures names { Indexed Known past.now → (node : ℕ) → last ≡ latest_by node (taken past.now) → result ≡ names_number node (decode rec.now) (taken past.now) }
 {
     if is_created(rec) {
-        return count + 1;
+        return past.count + 1;
     }
-    let k = pending_by(work, cap, last);
+    let k = pending_by(past.work, past.cap, last);
     if k == 0 {
         return 0;
     }
-    if uses_up(rec, record_at(log, k - 1)) {
+    if uses_up(rec, past.record(k - 1)) {
         k
     } else {
         0
@@ -140,23 +128,16 @@ fn names(log: &[u8], work: &[u64], count: usize, cap: usize, rec: &[u8], last: u
 
 // The number of the record that names the right range of the split that a record registers, 0 where it registers none.
 // The Rust's `register`.
-pub fn registers(
-    log: &[u8],
-    work: &[u64],
-    count: usize,
-    cap: usize,
-    rec: &[u8],
-    last: usize,
-) -> usize
-    requires { Bounds log.now work.now count cap × ((length rec.now ≡ 368) × (last ≤ count)) }
-    ensures within { result ≤ count + 1 }
-    ensures names { Known cap (hist log.now count) work.now → (node : NodeId) → (decode rec.now).node ≡ Some node → last ≡ latest_by node.0 (hist log.now count) → result ≡ named_number (decode rec.now) (hist log.now count) }
+pub fn registers(past: &Past, rec: &Record, last: usize) -> usize
+    requires { last ≤ past.now.count }
+    ensures within { result ≤ past.now.count + 1 }
+    ensures names { Indexed Known past.now → (node : NodeId) → (decode rec.now).node ≡ Some node → last ≡ latest_by node.0 (taken past.now) → result ≡ named_number (decode rec.now) (taken past.now) }
 {
-    let named = names(log, work, count, cap, rec, last);
+    let named = names(past, rec, last);
     if named == 0 {
         return 0;
     }
-    if split_of(log, work, count, cap, count, parent_of(rec), field::b(rec)) != 0 {
+    if split_of(past, past.count, parent_of(rec), field::b(rec)) != 0 {
         return 0;
     }
     named

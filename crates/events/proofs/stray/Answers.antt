@@ -24,9 +24,9 @@ returns-then-n-eq0 c =
 
 pub goes_on-requires : goal.goes_on-requires
 goes_on-requires c =
-    let l = c.requires.0 in
+    let l = c.requires in
     let z = c.if-n-eq0.false in
-    (c.requires.1, record_length c.args.log.now (c.args.n - 1) c.record_at.ensures (omega arith))
+    ((LENGTH c rec), record_length c.args.log.now (c.args.n - 1) c.record_at.ensures (omega arith))
 
 pub returns : goal.returns
 returns c =

@@ -1,4 +1,5 @@
 -- The one registered split of its range and index.
+use Rattle.history.proofs.Pasts.{bounds}
 use mathlib.Core.Path.{◌∙◌}
 use native.Mathlib.Omega.{arith}
 use Rattle.history.proofs.Logs.{record_bytes, record_length}
@@ -7,25 +8,25 @@ use Rattle.debts.proofs.debt.applied_split.Goals as goal
 
 pub a-requires : goal.a-requires
 a-requires c =
-    record_length c.args.log.now c.args.at c.record_at-rec.ensures
-    (omega (arith, c.requires.0, c.requires.1))
+    record_length c.args.past.now.log.now c.args.at c.record-rec.ensures
+    (omega (arith, (bounds c.args.past.now), c.requires))
 
 pub b-requires : goal.b-requires
 b-requires c =
-    record_length c.args.log.now c.args.at c.record_at-rec.ensures
-    (omega (arith, c.requires.0, c.requires.1))
+    record_length c.args.past.now.log.now c.args.at c.record-rec.ensures
+    (omega (arith, (bounds c.args.past.now), c.requires))
 
 pub returns-then-k-eq0 : goal.returns-then-k-eq0
 returns-then-k-eq0 c =
     let a = c.args in
     record {
       within = omega arith;
-      is = λ ix. applied_none a.log.now a.at a.right a.server.0
+      is = λ ix. applied_none a.past.now.log.now a.at a.right a.server.0
           (c.split_of-k.ensures.latest ix ∙ rw (
             c.a.ensures,
             c.b.ensures,
-            record_bytes a.log.now a.at
-                c.record_at-rec.ensures,
+            record_bytes a.past.now.log.now a.at
+                c.record-rec.ensures,
           )) c.if-k-eq0.true;
     }
 
@@ -34,13 +35,13 @@ returns-then-is_voted c =
     let a = c.args in
     record {
       within = c.split_of-k.ensures.within;
-      is = λ ix. applied_some a.log.now a.at a.right a.server.0
+      is = λ ix. applied_some a.past.now.log.now a.at a.right a.server.0
           (c.split_of-k.ensures.latest ix
           ∙ rw (
             c.a.ensures,
             c.b.ensures,
-            record_bytes a.log.now a.at
-                c.record_at-rec.ensures,
+            record_bytes a.past.now.log.now a.at
+                c.record-rec.ensures,
           )) c.if-k-eq0.false (c.is_voted.ensures ix)
           c.if-is_voted.true;
     }
@@ -50,13 +51,13 @@ returns-else-is_voted c =
     let a = c.args in
     record {
       within = omega arith;
-      is = λ ix. applied_not a.log.now a.at a.right a.server.0
+      is = λ ix. applied_not a.past.now.log.now a.at a.right a.server.0
           (c.split_of-k.ensures.latest ix
           ∙ rw (
             c.a.ensures,
             c.b.ensures,
-            record_bytes a.log.now a.at
-                c.record_at-rec.ensures,
+            record_bytes a.past.now.log.now a.at
+                c.record-rec.ensures,
           )) c.if-k-eq0.false (c.is_voted.ensures ix)
           c.if-is_voted.false;
     }

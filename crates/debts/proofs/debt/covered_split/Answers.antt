@@ -1,4 +1,5 @@
 -- All registering records from i on are taken over.
+use Rattle.history.proofs.Pasts.{bounds}
 use mathlib.Core.Path.{◌∙◌}
 use native.Mathlib.Omega.{arith}
 use Prim.Native.Nat.{◌+◌, ◌-◌}
@@ -9,7 +10,7 @@ use Rattle.debts.proofs.debt.covered_split.Goals as goal
 
 pub registering_by-i-requires : goal.registering_by-i-requires
 registering_by-i-requires c =
-    (c.requires.0.work_holds, (omega (arith, c.requires.0, c.requires.1), c.requires.0.small))
+    (c.args.past.now.work_holds, (omega (arith, (bounds c.args.past.now), c.requires), c.args.past.now.small))
 
 pub loop-i-init : goal.loop-i-init
 loop-i-init c =
@@ -18,8 +19,8 @@ loop-i-init c =
       c.registering_by-i.ensures.0,
       (
         omega arith,
-        λ ix. cover_first a.log.now (a.at + 1) (record_at a.log.now a.at) a.right a.server.0
-            (c.registering_by-i.ensures.1 ∙ registering_read a.log.now ix.1.registered p.0.within p.0.small (a.at + 1)
+        λ ix. cover_first a.past.now.log.now (a.at + 1) (record_at a.past.now.log.now a.at) a.right a.server.0
+            (c.registering_by-i.ensures.1 ∙ registering_read a.past.now.log.now ix.1.registered p.0.within p.0.small (a.at + 1)
             (omega (arith, p.1))),
       ),
     )
@@ -29,21 +30,21 @@ overflow_sub-t c = omega arith
 
 pub greater_split-best-requires : goal.greater_split-best-requires
 greater_split-best-requires c = (
-  c.requires.0,
+  (bounds c.args.past.now),
   (
-    c.requires.1,
+    c.requires,
     (
-      omega (arith, c.requires.1, c.loop-i.invariant.0),
+      omega (arith, c.requires, c.loop-i.invariant.0),
       omega
-          (arith, c.requires.1, c.loop-i.invariant.1.0),
+          (arith, c.requires, c.loop-i.invariant.1.0),
     ),
   ),
 )
 
 pub registering_by-i-requires-in-loop-i : goal.registering_by-i-requires-in-loop-i
 registering_by-i-requires-in-loop-i c = (
-  c.requires.0.work_holds,
-  (omega (arith, c.requires.0, c.requires.1, c.loop-i.invariant.0), c.requires.0.small),
+  c.args.past.now.work_holds,
+  (omega (arith, (bounds c.args.past.now), c.requires, c.loop-i.invariant.0), c.args.past.now.small),
 )
 
 pub loop-i-smaller : goal.loop-i-smaller
@@ -57,9 +58,9 @@ loop-i-preserved c =
       omega (arith, c.registering_by-i-in-loop-i.ensures.0, l.invariant.0),
       (
         omega (arith, c.greater_split-best.ensures.within, l.invariant.0, l.invariant.1.0),
-        λ ix. cover_next a.log.now (a.at + 1) (record_at a.log.now a.at) a.right a.server.0 c.loop-i-test.true
+        λ ix. cover_next a.past.now.log.now (a.at + 1) (record_at a.past.now.log.now a.at) a.right a.server.0 c.loop-i-test.true
             l.invariant.0 (l.invariant.1.1 ix)
-            (c.registering_by-i-in-loop-i.ensures.1 ∙ registering_read a.log.now ix.1.registered p.0.within p.0.small (l.i - 1)
+            (c.registering_by-i-in-loop-i.ensures.1 ∙ registering_read a.past.now.log.now ix.1.registered p.0.within p.0.small (l.i - 1)
             (omega (arith, p.1, l.invariant.0)))
             (c.greater_split-best.ensures.is ix),
       ),
@@ -70,5 +71,5 @@ returns c =
     let a = c.args in
     record {
       within = c.loop-i.invariant.1.0;
-      is = λ ix. cover_end a.log.now a.at a.right a.server.0 (omega arith) (c.loop-i.invariant.1.1 ix);
+      is = λ ix. cover_end a.past.now.log.now a.at a.right a.server.0 (omega arith) (c.loop-i.invariant.1.1 ix);
     }

@@ -7,8 +7,8 @@ use Rattle.debts.proofs.debt.covered_split.Given as goal
 
 abbrev pub invariant-loop-i : goal.invariant-loop-i
 invariant-loop-i l =
-    (l.i ≤ l.at + 1) × ((l.best ≤ l.at + 1) × (Known l.cap (hist l.log l.count) l.work
-    → Covering l.log (l.at + 1) (record_at l.log l.at) l.right l.server.0 l.i l.best))
+    (l.i ≤ l.at + 1) × ((l.best ≤ l.at + 1) × (Indexed Known l.past
+    → Covering l.past.log.now (l.at + 1) (record_at l.past.log.now l.at) l.right l.server.0 l.i l.best))
 
 abbrev pub decreases-loop-i : goal.decreases-loop-i
 decreases-loop-i l = l.i

@@ -7,8 +7,8 @@ returns-then-k-ne0 c =
     let a = c.args in
     record {
       within = c.own_debt-k.ensures.within;
-      arises = λ ix. (debt_own a.log.now a.at a.node.0 a.right c.if-k-ne0.true (c.own_debt-k.ensures.is ix)).is;
-      found = λ ix. (debt_own a.log.now a.at a.node.0 a.right c.if-k-ne0.true (c.own_debt-k.ensures.is ix)).found;
+      arises = λ ix. (debt_own a.past.now.log.now a.at a.node.0 a.right c.if-k-ne0.true (c.own_debt-k.ensures.is ix)).is;
+      found = λ ix. (debt_own a.past.now.log.now a.at a.node.0 a.right c.if-k-ne0.true (c.own_debt-k.ensures.is ix)).found;
     }
 
 pub returns : goal.returns
@@ -16,8 +16,8 @@ returns c =
     let a = c.args in
     record {
       within = c.first_debt.ensures.within;
-      arises = λ ix. (debt_first a.log.now a.at a.node.0 a.right c.if-k-ne0.false (c.own_debt-k.ensures.is ix)
+      arises = λ ix. (debt_first a.past.now.log.now a.at a.node.0 a.right c.if-k-ne0.false (c.own_debt-k.ensures.is ix)
           (c.first_debt.ensures.is ix)).is;
-      found = λ ix. (debt_first a.log.now a.at a.node.0 a.right c.if-k-ne0.false (c.own_debt-k.ensures.is ix)
+      found = λ ix. (debt_first a.past.now.log.now a.at a.node.0 a.right c.if-k-ne0.false (c.own_debt-k.ensures.is ix)
           (c.first_debt.ensures.is ix)).found;
     }

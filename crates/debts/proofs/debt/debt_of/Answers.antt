@@ -1,4 +1,5 @@
 -- What is owed after all records was owed after i.
+use Rattle.history.proofs.Pasts.{bounds}
 use native.Mathlib.Omega.{arith}
 use Rattle.debts.proofs.Debts.{owes_next, owes_found, owes_end}
 use Rattle.debts.proofs.debt.debt_of.Goals as goal
@@ -7,7 +8,7 @@ pub loop-i-init : goal.loop-i-init
 loop-i-init c = (omega arith, λ ix s e. e)
 
 pub debt_at-k-requires : goal.debt_at-k-requires
-debt_at-k-requires c = (c.requires, omega (arith, c.loop-i.invariant.0))
+debt_at-k-requires c = ((bounds c.args.past.now), omega (arith, c.loop-i.invariant.0))
 
 pub returns-then-k-ne0 : goal.returns-then-k-ne0
 returns-then-k-ne0 c =
@@ -16,7 +17,7 @@ returns-then-k-ne0 c =
     let d = c.debt_at-k in
     record {
       within = omega (arith, d.ensures.within, l.invariant.0);
-      owed = λ ix. owes_found a.log.now a.node.0 a.right a.count d.result c.loop-i-test.true (l.invariant.1 ix)
+      owed = λ ix. owes_found a.past.now.log.now a.node.0 a.right a.past.now.count d.result c.loop-i-test.true (l.invariant.1 ix)
           (d.ensures.arises ix) (d.ensures.found ix c.if-k-ne0.true);
     }
 
@@ -26,7 +27,7 @@ loop-i-preserved c =
     let l = c.loop-i in
     let d = c.debt_at-k in (
       omega (arith, l.invariant.0),
-      λ ix. owes_next a.log.now a.node.0 a.right a.count d.result c.loop-i-test.true (l.invariant.1 ix)
+      λ ix. owes_next a.past.now.log.now a.node.0 a.right a.past.now.count d.result c.loop-i-test.true (l.invariant.1 ix)
           (d.ensures.arises ix) c.if-k-ne0.false,
     )
 
@@ -36,6 +37,6 @@ returns c =
     c.args in
     record {
       within = omega arith;
-      owed = λ ix. owes_end a.log.now a.node.0 a.right a.count (omega arith)
+      owed = λ ix. owes_end a.past.now.log.now a.node.0 a.right a.past.now.count (omega arith)
           (c.loop-i.invariant.1 ix);
     }

@@ -6,7 +6,7 @@ use Rattle.debts.proofs.Debts.{Owes}
 use Rattle.debts.proofs.debt.debt_of.Given as goal
 
 abbrev pub invariant-loop-i : goal.invariant-loop-i
-invariant-loop-i l = (l.i ≤ l.count) × (Known l.cap (hist l.log l.count) l.work → Owes l.log l.node.0 l.right l.count l.i)
+invariant-loop-i l = (l.i ≤ l.past.count) × (Indexed Known l.past → Owes l.past.log.now l.node.0 l.right l.past.count l.i)
 
 abbrev pub decreases-loop-i : goal.decreases-loop-i
 decreases-loop-i l = l.i

@@ -1,4 +1,5 @@
 -- The record itself, where the node comes to owe by what it registers.
+use Rattle.history.proofs.Pasts.{bounds}
 use mathlib.Core.Path.{sym, ap, ◌∙◌}
 use native.Mathlib.Omega.{arith}
 use Rattle.history.proofs.Logs.{record_bytes, record_length}
@@ -8,12 +9,12 @@ use Rattle.debts.proofs.debt.first_debt.Goals as goal
 
 pub owes_first-requires : goal.owes_first-requires
 owes_first-requires c = (
-  c.requires.0,
+  (bounds c.args.past.now),
   (
-    omega (arith, c.requires.1),
-    record_length c.args.log.now
-        c.args.at c.record_at.ensures
-        (omega (arith, c.requires.0, c.requires.1)),
+    omega (arith, c.requires),
+    record_length c.args.past.now.log.now
+        c.args.at c.record.ensures
+        (omega (arith, (bounds c.args.past.now), c.requires)),
   ),
 )
 
@@ -22,10 +23,10 @@ returns-then-owes_first c =
     let a = c.args in
     record {
       within = omega arith;
-      is = λ ix. first_some a.log.now a.at a.node.0 a.right
+      is = λ ix. first_some a.past.now.log.now a.at a.node.0 a.right
           (sym (c.is_right.ensures ix) ∙ c.if-is_right.true)
-          (sym (c.owes_first.ensures ix ∙ ap (owes_first a.log.now a.at a.node.0)
-          (record_bytes a.log.now a.at c.record_at.ensures)) ∙ c.if-owes_first.true);
+          (sym (c.owes_first.ensures ix ∙ ap (owes_first a.past.now.log.now a.at a.node.0)
+          (record_bytes a.past.now.log.now a.at c.record.ensures)) ∙ c.if-owes_first.true);
     }
 
 pub returns-else-owes_first : goal.returns-else-owes_first
@@ -33,10 +34,10 @@ returns-else-owes_first c =
     let a = c.args in
     record {
       within = omega arith;
-      is = λ ix. first_not a.log.now a.at a.node.0 a.right
+      is = λ ix. first_not a.past.now.log.now a.at a.node.0 a.right
           (sym (c.is_right.ensures ix) ∙ c.if-is_right.true)
-          (sym (c.owes_first.ensures ix ∙ ap (owes_first a.log.now a.at a.node.0)
-          (record_bytes a.log.now a.at c.record_at.ensures)) ∙ c.if-owes_first.false);
+          (sym (c.owes_first.ensures ix ∙ ap (owes_first a.past.now.log.now a.at a.node.0)
+          (record_bytes a.past.now.log.now a.at c.record.ensures)) ∙ c.if-owes_first.false);
     }
 
 pub returns-else-is_right : goal.returns-else-is_right
@@ -45,6 +46,6 @@ returns-else-is_right c =
     c.args in
     record {
       within = omega arith;
-      is = λ ix. first_other a.log.now a.at a.node.0 a.right
+      is = λ ix. first_other a.past.now.log.now a.at a.node.0 a.right
           (sym (c.is_right.ensures ix) ∙ c.if-is_right.false);
     }

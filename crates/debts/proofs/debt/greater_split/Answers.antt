@@ -34,5 +34,5 @@ returns-else-is_above c =
     record {
       within = omega arith;
       is = λ ix. greater_not (a.t + 1) a.best c.is_above.ensures
-          (holds (is_covered (record_at a.log.now a.at) a.right a.server.0) (placed_split a.log.now a.t)) c.if-is_above.false;
+          (holds (is_covered (record_at a.past.now.log.now a.at) a.right a.server.0) (placed_split a.past.now.log.now a.t)) c.if-is_above.false;
     }

@@ -1,4 +1,5 @@
 -- By parent and index, then by the right range and the voters.
+use Rattle.history.proofs.Pasts.{bounds}
 use mathlib.Core.Path.{ap, ◌∙◌}
 use native.Mathlib.Omega.{arith}
 use Rattle.record.specs.Records.{TraceRecord}
@@ -10,33 +11,33 @@ use Rattle.debts.proofs.debt.is_covered.Goals as goal
 
 pub parent_of-requires : goal.parent_of-requires
 parent_of-requires c =
-    record_length c.args.log.now c.args.t c.record_at-split.ensures
-    (omega (arith, c.requires.0, c.requires.1.1))
+    record_length c.args.past.now.log.now c.args.t c.record-split.ensures
+    (omega (arith, (bounds c.args.past.now), c.requires.1))
 
 pub a-requires : goal.a-requires
 a-requires c =
-    record_length c.args.log.now c.args.at
-    c.record_at-rec.ensures (omega
-    (arith, c.requires.0, c.requires.1.0))
+    record_length c.args.past.now.log.now c.args.at
+    c.record-rec.ensures (omega
+    (arith, (bounds c.args.past.now), c.requires.0))
 
 pub b-requires : goal.b-requires
 b-requires c =
-    record_length c.args.log.now c.args.t
-    c.record_at-split.ensures (omega
-    (arith, c.requires.0, c.requires.1.1))
+    record_length c.args.past.now.log.now c.args.t
+    c.record-split.ensures (omega
+    (arith, (bounds c.args.past.now), c.requires.1))
 
 pub c-requires : goal.c-requires
 c-requires c =
-    record_length c.args.log.now
-    c.args.at c.record_at-rec.ensures
-    (omega (arith, c.requires.0, c.requires.1.0))
+    record_length c.args.past.now.log.now
+    c.args.at c.record-rec.ensures
+    (omega (arith, (bounds c.args.past.now), c.requires.0))
 
 pub returns-then-parent_of-a : goal.returns-then-parent_of-a
 returns-then-parent_of-a c =
     let a = c.args in
-    let y = record_bytes a.log.now a.at c.record_at-rec.ensures in
-    let t = record_bytes a.log.now a.t c.record_at-split.ensures in
-    λ ix. covered_some a.log.now a.t a.right a.server.0 (record_at a.log.now a.at)
+    let y = record_bytes a.past.now.log.now a.at c.record-rec.ensures in
+    let t = record_bytes a.past.now.log.now a.t c.record-split.ensures in
+    λ ix. covered_some a.past.now.log.now a.t a.right a.server.0 (record_at a.past.now.log.now a.at)
     (c.parent_of.ensures ∙ ap (λ (z : TraceRecord). parent_by z) t)
     (c.b.ensures ∙ ap (λ (z : TraceRecord). z.b) t)
     (c.a.ensures ∙ ap (λ (z : TraceRecord). z.a) y) (c.c.ensures ∙ ap (λ (z : TraceRecord). z.c) y)
@@ -45,9 +46,9 @@ returns-then-parent_of-a c =
 pub returns : goal.returns
 returns c =
     let a = c.args in
-    let y = record_bytes a.log.now a.at c.record_at-rec.ensures in
-    let t = record_bytes a.log.now a.t c.record_at-split.ensures in
-    λ ix. covered_none a.log.now a.t a.right a.server.0 (record_at a.log.now a.at)
+    let y = record_bytes a.past.now.log.now a.at c.record-rec.ensures in
+    let t = record_bytes a.past.now.log.now a.t c.record-split.ensures in
+    λ ix. covered_none a.past.now.log.now a.t a.right a.server.0 (record_at a.past.now.log.now a.at)
     (c.parent_of.ensures ∙ ap (λ (z : TraceRecord). parent_by z) t)
     (c.b.ensures ∙ ap (λ (z : TraceRecord). z.b) t) (c.a.ensures ∙ ap (λ (z : TraceRecord). z.a) y)
     (c.c.ensures ∙ ap (λ (z : TraceRecord). z.c) y)

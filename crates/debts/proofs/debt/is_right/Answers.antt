@@ -1,4 +1,5 @@
 -- By the record that names its right range.
+use Rattle.history.proofs.Pasts.{bounds}
 use mathlib.Core.Path.{refl, sym, ap, ◌∙◌}
 use native.Mathlib.Omega.{arith}
 use Rattle.record.specs.Records.{TraceRecord}
@@ -15,25 +16,25 @@ pub returns-then-named-eq0 : goal.returns-then-named-eq0
 returns-then-named-eq0 c =
     let a = c.args in
     let p = c.requires in
-    λ ix. right_none a.log.now a.t a.right
-    (c.named_by-named.ensures ∙ named_read a.log.now ix.1.registered p.0.within p.0.small a.t p.1) c.if-named-eq0.true
+    λ ix. right_none a.past.now.log.now a.t a.right
+    (c.named_by-named.ensures ∙ named_read a.past.now.log.now ix.1.registered p.0.within p.0.small a.t p.1) c.if-named-eq0.true
 
 pub right_of-requires : goal.right_of-requires
 right_of-requires c = (
-  c.requires.0.log_holds,
-  record_length c.args.log.now
-      c.args.t c.record_at.ensures
-      (omega (arith, c.requires.0, c.requires.1)),
+  c.args.past.now.log_holds,
+  record_length c.args.past.now.log.now
+      c.args.t c.record.ensures
+      (omega (arith, (bounds c.args.past.now), c.requires)),
 )
 
 pub returns : goal.returns
 returns c =
     let a = c.args in
     let p = c.requires in
-    let y = record_bytes a.log.now a.t c.record_at.ensures in
+    let y = record_bytes a.past.now.log.now a.t c.record.ensures in
     λ ix.
-    let m = c.named_by-named.ensures ∙ named_read a.log.now ix.1.registered p.0.within p.0.small a.t p.1 in
-    right_some a.log.now a.t a.right m c.if-named-eq0.false
-    (c.right_of.ensures (λ k. range_of a.log.now a.t a.count (omega (arith, p.1)) refl
-    (right_range a.log.now a.t (record_at a.log.now a.t) m c.if-named-eq0.false (ap (λ (z : TraceRecord). is_kind 1 z) (sym y) ∙ k)))
-    ∙ ap (λ (z : TraceRecord). right_by a.log.now z c.named_by-named.result) y)
+    let m = c.named_by-named.ensures ∙ named_read a.past.now.log.now ix.1.registered p.0.within p.0.small a.t p.1 in
+    right_some a.past.now.log.now a.t a.right m c.if-named-eq0.false
+    (c.right_of.ensures (λ k. range_of a.past.now.log.now a.t a.past.now.count (omega (arith, p.1)) refl
+    (right_range a.past.now.log.now a.t (record_at a.past.now.log.now a.t) m c.if-named-eq0.false (ap (λ (z : TraceRecord). is_kind 1 z) (sym y) ∙ k)))
+    ∙ ap (λ (z : TraceRecord). right_by a.past.now.log.now z c.named_by-named.result) y)

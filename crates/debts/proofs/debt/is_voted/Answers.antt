@@ -1,4 +1,5 @@
 -- A voter of the record is one of the split that it registers.
+use Rattle.history.proofs.Pasts.{bounds}
 use mathlib.Core.Path.{ap, ◌∙◌}
 use native.Mathlib.Omega.{arith}
 use lib.Dec.{eqb}
@@ -10,17 +11,17 @@ use Rattle.debts.proofs.debt.is_voted.Goals as goal
 
 pub is_voter-requires : goal.is_voter-requires
 is_voter-requires c =
-    record_length c.args.log.now c.args.t c.record_at.ensures
-    (omega (arith, c.requires.0, c.requires.1))
+    record_length c.args.past.now.log.now c.args.t c.record.ensures
+    (omega (arith, (bounds c.args.past.now), c.requires))
 
 pub returns-then-is_right : goal.returns-then-is_right
 returns-then-is_right c =
     let a = c.args in
-    λ ix. voted_some a.log.now a.t a.right a.server.0 (c.is_right.ensures ix) c.if-is_right.true
+    λ ix. voted_some a.past.now.log.now a.t a.right a.server.0 (c.is_right.ensures ix) c.if-is_right.true
     (c.is_voter.ensures ∙ ap (λ (z : TraceRecord). any_of (λ v. eqb v a.server.0) z.voters)
-    (record_bytes a.log.now a.t c.record_at.ensures))
+    (record_bytes a.past.now.log.now a.t c.record.ensures))
 
 pub returns : goal.returns
 returns c =
     let a =
-    c.args in λ ix. voted_none a.log.now a.t a.right a.server.0 (c.is_right.ensures ix) c.if-is_right.false
+    c.args in λ ix. voted_none a.past.now.log.now a.t a.right a.server.0 (c.is_right.ensures ix) c.if-is_right.false

@@ -1,4 +1,5 @@
 -- By the kind of the record, where it is the node's own.
+use Rattle.history.proofs.Pasts.{bounds}
 use mathlib.Core.Path.{sym, ap, ◌∙◌}
 use native.Mathlib.Omega.{arith}
 use Rattle.record.specs.declared.named.ApplyEffect.TheVariants.{Took}
@@ -12,69 +13,69 @@ use Rattle.debts.proofs.debt.own_debt.Goals as goal
 
 pub is_by-requires : goal.is_by-requires
 is_by-requires c =
-    record_length c.args.log.now c.args.at c.record_at-rec.ensures
-    (omega (arith, c.requires.0, c.requires.1))
+    record_length c.args.past.now.log.now c.args.at c.record-rec.ensures
+    (omega (arith, (bounds c.args.past.now), c.requires))
 
 pub returns-then-not-is_by : goal.returns-then-not-is_by
 returns-then-not-is_by c =
     let a = c.args in
-    let y = record_bytes a.log.now a.at c.record_at-rec.ensures in
+    let y = record_bytes a.past.now.log.now a.at c.record-rec.ensures in
     record {
       within = omega arith;
-      is = λ ix. own_other a.log.now a.at a.node.0 a.right
+      is = λ ix. own_other a.past.now.log.now a.at a.node.0 a.right
           (sym (c.is_by.ensures ∙ ap (λ (z : TraceRecord). is_by a.node.0 z) y) ∙ c.if-not-is_by.true);
     }
 
 pub kind-requires : goal.kind-requires
 kind-requires c =
-    record_length c.args.log.now c.args.at
-    c.record_at-rec.ensures
-    (omega (arith, c.requires.0, c.requires.1))
+    record_length c.args.past.now.log.now c.args.at
+    c.record-rec.ensures
+    (omega (arith, (bounds c.args.past.now), c.requires))
 
 pub has_taken-requires : goal.has_taken-requires
 has_taken-requires c =
-    record_length c.args.log.now
-    c.args.at c.record_at-rec.ensures
-    (omega (arith, c.requires.0, c.requires.1))
+    record_length c.args.past.now.log.now
+    c.args.at c.record-rec.ensures
+    (omega (arith, (bounds c.args.past.now), c.requires))
 
 pub returns-then-kind-has_taken : goal.returns-then-kind-has_taken
 returns-then-kind-has_taken c =
     let a = c.args in
-    let y = record_bytes a.log.now a.at c.record_at-rec.ensures in
+    let y = record_bytes a.past.now.log.now a.at c.record-rec.ensures in
     let b =
     sym (c.is_by.ensures ∙ ap (λ (z : TraceRecord). is_by a.node.0 z) y)
     ∙ c.if-not-is_by.false in
     let t =
-    applies_test (record_at a.log.now a.at) (c.kind.ensures ∙ ap (λ (z : TraceRecord). z.kind) y)
+    applies_test (record_at a.past.now.log.now a.at) (c.kind.ensures ∙ ap (λ (z : TraceRecord). z.kind) y)
     (c.has_taken.ensures ∙ ap (λ (z : TraceRecord). has_effect Took z) y) c.if-kind-has_taken.true in
     record {
       within = omega (arith, c.applied_split.ensures.within);
-      is = λ ix. own_applied a.log.now a.at a.node.0 a.right b t (c.server_of-server.ensures ix)
+      is = λ ix. own_applied a.past.now.log.now a.at a.node.0 a.right b t (c.server_of-server.ensures ix)
           (c.applied_split.ensures.is ix);
     }
 
 pub kind-requires-2 : goal.kind-requires-2
 kind-requires-2 c =
-    record_length c.args.log.now
+    record_length c.args.past.now.log.now
     c.args.at
-    c.record_at-rec.ensures
-    (omega (arith, c.requires.0, c.requires.1))
+    c.record-rec.ensures
+    (omega (arith, (bounds c.args.past.now), c.requires))
 
 pub returns-then-kind-is_restated : goal.returns-then-kind-is_restated
 returns-then-kind-is_restated c =
     let a = c.args in
-    let y = record_bytes a.log.now a.at c.record_at-rec.ensures in
+    let y = record_bytes a.past.now.log.now a.at c.record-rec.ensures in
     let b =
     sym (c.is_by.ensures ∙ ap (λ (z : TraceRecord). is_by a.node.0 z) y)
     ∙ c.if-not-is_by.false in
     let t =
-    applies_test (record_at a.log.now a.at) (c.kind.ensures ∙ ap (λ (z : TraceRecord). z.kind) y)
+    applies_test (record_at a.past.now.log.now a.at) (c.kind.ensures ∙ ap (λ (z : TraceRecord). z.kind) y)
     (c.has_taken.ensures ∙ ap (λ (z : TraceRecord). has_effect Took z) y)
     c.if-kind-has_taken.false in
     record {
       within = c.covered_split.ensures.within;
-      is = λ ix. own_covered a.log.now a.at a.node.0 a.right b t
-          (records_test (record_at a.log.now a.at) (c.kind-2.ensures ∙ ap (λ (z : TraceRecord). z.kind) y)
+      is = λ ix. own_covered a.past.now.log.now a.at a.node.0 a.right b t
+          (records_test (record_at a.past.now.log.now a.at) (c.kind-2.ensures ∙ ap (λ (z : TraceRecord). z.kind) y)
           (c.is_restated.ensures ix) c.if-kind-is_restated.true)
           (c.server_of-server.ensures ix) (c.covered_split.ensures.is ix);
     }
@@ -82,16 +83,16 @@ returns-then-kind-is_restated c =
 pub returns : goal.returns
 returns c =
     let a = c.args in
-    let y = record_bytes a.log.now a.at c.record_at-rec.ensures in
+    let y = record_bytes a.past.now.log.now a.at c.record-rec.ensures in
     let b =
     sym (c.is_by.ensures ∙ ap (λ (z : TraceRecord). is_by a.node.0 z) y)
     ∙ c.if-not-is_by.false in
     let t =
-    applies_test (record_at a.log.now a.at) (c.kind.ensures ∙ ap (λ (z : TraceRecord). z.kind) y)
+    applies_test (record_at a.past.now.log.now a.at) (c.kind.ensures ∙ ap (λ (z : TraceRecord). z.kind) y)
     (c.has_taken.ensures ∙ ap (λ (z : TraceRecord). has_effect Took z) y) c.if-kind-has_taken.false in
     record {
       within = omega arith;
-      is = λ ix. own_neither a.log.now a.at a.node.0 a.right b t
-          (records_test (record_at a.log.now a.at) (c.kind-2.ensures ∙ ap (λ (z : TraceRecord). z.kind) y)
+      is = λ ix. own_neither a.past.now.log.now a.at a.node.0 a.right b t
+          (records_test (record_at a.past.now.log.now a.at) (c.kind-2.ensures ∙ ap (λ (z : TraceRecord). z.kind) y)
           (c.is_restated.ensures ix) c.if-kind-is_restated.false);
     }

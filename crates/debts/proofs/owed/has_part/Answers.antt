@@ -6,7 +6,7 @@ use Rattle.debts.proofs.owed.has_part.Goals as goal
 pub returns-then-is_by : goal.returns-then-is_by
 returns-then-is_by c =
     let a =
-    c.args in λ ix. part_own a.log.now a.top a.node.0 (decode a.rec.now)
+    c.args in λ ix. part_own a.past.now.log.now a.top a.node.0 (decode a.rec.now)
     c.is_by.ensures c.if-is_by.true
 
 pub latest_asked-requires : goal.latest_asked-requires
@@ -15,5 +15,5 @@ latest_asked-requires c = let p = c.requires in (p.0, p.1.0)
 pub returns : goal.returns
 returns c =
     let a = c.args in
-    λ ix. part_found a.log.now a.top a.node.0 (decode a.rec.now) c.is_by.ensures c.if-is_by.false
+    λ ix. part_found a.past.now.log.now a.top a.node.0 (decode a.rec.now) c.is_by.ensures c.if-is_by.false
     c.parent_of-parent.ensures (c.latest_asked.ensures.latest ix)

@@ -1,4 +1,5 @@
 -- The walk along the chain of node and range leaves out no record that is looked for.
+use Rattle.history.proofs.Pasts.{bounds}
 use Rattle.history.specs.Buckets.{bucket_by_two}
 use mathlib.Core.Path.{refl, ap, ◌∙◌}
 use native.Mathlib.Omega.{arith}
@@ -20,28 +21,28 @@ pub loop-i-init : goal.loop-i-init
 loop-i-init c =
     let a = c.args in (
       c.hold_top-i.ensures.0,
-      λ ix. walk_first (by_asked a.cap a.asked a.node.0 a.range) a.log.now a.top a.count ix.0.held
-          c.requires.1 refl (two_below a.cap a.node.0 a.range c.requires.0.positive) refl
+      λ ix. walk_first (by_asked a.past.now.cap a.asked a.node.0 a.range) a.past.now.log.now a.top a.past.now.count ix.0.held
+          c.requires refl (two_below a.past.now.cap a.node.0 a.range c.args.past.now.positive) refl
           c.hold_top-i.ensures.1,
     )
 
 pub overflow_sub-at : goal.overflow_sub-at
 overflow_sub-at c = omega arith
 
-pub record_at-requires : goal.record_at-requires
-record_at-requires c = omega (arith, c.requires.0)
+pub record-requires : goal.record-requires
+record-requires c = omega (arith, (bounds c.args.past.now))
 
 pub mark_at-requires : goal.mark_at-requires
 mark_at-requires c = (
-  c.requires.0.work_holds,
-  (omega (arith, c.requires.0, c.loop-i.invariant.0), c.requires.0.small),
+  c.args.past.now.work_holds,
+  (omega (arith, (bounds c.args.past.now), c.loop-i.invariant.0), c.args.past.now.small),
 )
 
 pub is_asked_of-requires : goal.is_asked_of-requires
 is_asked_of-requires c =
-    rw c.record_at.ensures (bytes_length c.args.log.now
+    rw c.record.ensures (bytes_length c.args.past.now.log.now
     (c.loop-i.i - 1) (omega
-    (arith, c.requires.0, c.loop-i.invariant.0)))
+    (arith, (bounds c.args.past.now), c.loop-i.invariant.0)))
 
 pub returns-then-i-top : goal.returns-then-i-top
 returns-then-i-top c =
@@ -52,18 +53,18 @@ returns-then-i-top c =
       within = leb-true l.i a.top (and_left (leb l.i a.top) c.is_asked_of.result c.if-i-top.true);
       latest = λ ix.
           above_found
-          (walk_hit (by_asked a.cap a.asked a.node.0 a.range) a.log.now a.top (omega arith) (l.invariant.1 ix)
-          (asks_test a.log.now a.node.0 ix.1 p.0.within (l.i - 1) (omega (arith, l.invariant.0)) a.asked a.range
+          (walk_hit (by_asked a.past.now.cap a.asked a.node.0 a.range) a.past.now.log.now a.top (omega arith) (l.invariant.1 ix)
+          (asks_test a.past.now.log.now a.node.0 ix.1 p.0.within (l.i - 1) (omega (arith, l.invariant.0)) a.asked a.range
           c.mark_at.ensures (c.is_asked_of.ensures ∙ ap
           (λ (y : TraceRecord). is_by a.node.0 y && eqb y.a a.range && asks_kind a.asked y (not (eqb c.mark_at.result 0)))
-          (record_bytes a.log.now _ c.record_at.ensures))) c.if-i-top.true)
+          (record_bytes a.past.now.log.now _ c.record.ensures))) c.if-i-top.true)
           c.loop-i-test.true;
     }
 
 pub hold_below-i-requires : goal.hold_below-i-requires
 hold_below-i-requires c = (
-  c.requires.0.work_holds,
-  (omega (arith, c.requires.0, c.loop-i.invariant.0), c.requires.0.small),
+  c.args.past.now.work_holds,
+  (omega (arith, (bounds c.args.past.now), c.loop-i.invariant.0), c.args.past.now.small),
 )
 
 pub loop-i-smaller : goal.loop-i-smaller
@@ -76,14 +77,14 @@ loop-i-preserved c =
     let p = c.requires in (
       omega (arith, c.hold_below-i.ensures.0, l.invariant.0),
       λ ix.
-          walk_next (by_asked a.cap a.asked a.node.0 a.range) a.log.now a.top a.count ix.0.held p.0.within (omega arith)
+          walk_next (by_asked a.past.now.cap a.asked a.node.0 a.range) a.past.now.log.now a.top a.past.now.count ix.0.held p.0.within (omega arith)
           l.invariant.0 (l.invariant.1 ix)
-          (asks_test a.log.now a.node.0 ix.1 p.0.within (l.i - 1) (omega (arith, l.invariant.0)) a.asked a.range
+          (asks_test a.past.now.log.now a.node.0 ix.1 p.0.within (l.i - 1) (omega (arith, l.invariant.0)) a.asked a.range
           c.mark_at.ensures
           (c.is_asked_of.ensures ∙ ap
           (λ (y : TraceRecord). is_by a.node.0 y && eqb y.a a.range && asks_kind a.asked y
           (not (eqb c.mark_at.result 0)))
-          (record_bytes a.log.now _ c.record_at.ensures))) c.if-i-top.false refl c.hold_below-i.ensures.1,
+          (record_bytes a.past.now.log.now _ c.record.ensures))) c.if-i-top.false refl c.hold_below-i.ensures.1,
     )
 
 pub returns : goal.returns
@@ -91,6 +92,6 @@ returns c =
     let a = c.args in
     record {
       within = omega arith;
-      latest = λ ix. walk_low (asks a.asked a.node.0 a.range) (by_hold a.cap) (bucket_by_two a.cap a.node.0 a.range) a.log.now
+      latest = λ ix. walk_low (asks a.asked a.node.0 a.range) (by_hold a.past.now.cap) (bucket_by_two a.past.now.cap a.node.0 a.range) a.past.now.log.now
           a.top c.loop-i-test.false (c.loop-i.invariant.1 ix);
     }

@@ -1,4 +1,5 @@
 -- The walk along the chain of node and range leaves out no record at which the node comes to owe.
+use Rattle.history.proofs.Pasts.{bounds}
 use Rattle.history.specs.Buckets.{bucket_by_two}
 use mathlib.Core.Path.{refl, ap, ◌∙◌}
 use native.Mathlib.Omega.{arith}
@@ -20,35 +21,35 @@ pub loop-i-init : goal.loop-i-init
 loop-i-init c =
     let a = c.args in (
       c.hold_top-i.ensures.0,
-      λ ix. walk_first (by_coming a.cap a.node.0 a.range a.index (decode a.split.now).voters) a.log.now
-          a.count a.count ix.0.held (omega arith) refl
-          (two_below a.cap a.node.0 a.range c.requires.0.positive) refl c.hold_top-i.ensures.1,
+      λ ix. walk_first (by_coming a.past.now.cap a.node.0 a.range a.index (decode a.split.now).voters) a.past.now.log.now
+          a.past.now.count a.past.now.count ix.0.held (omega arith) refl
+          (two_below a.past.now.cap a.node.0 a.range c.args.past.now.positive) refl c.hold_top-i.ensures.1,
     )
 
 pub overflow_sub-at : goal.overflow_sub-at
 overflow_sub-at c = omega arith
 
-pub record_at-requires : goal.record_at-requires
-record_at-requires c = omega (arith, c.requires.0)
+pub record-requires : goal.record-requires
+record-requires c = omega (arith, (bounds c.args.past.now))
 
 pub mark_at-requires : goal.mark_at-requires
 mark_at-requires c = (
-  c.requires.0.work_holds,
-  (omega (arith, c.requires.0, c.loop-i.invariant.0), c.requires.0.small),
+  c.args.past.now.work_holds,
+  (omega (arith, (bounds c.args.past.now), c.loop-i.invariant.0), c.args.past.now.small),
 )
 
 pub server_at-requires : goal.server_at-requires
 server_at-requires c = (
-  c.requires.0.work_holds,
-  (omega (arith, c.requires.0, c.loop-i.invariant.0), c.requires.0.small),
+  c.args.past.now.work_holds,
+  (omega (arith, (bounds c.args.past.now), c.loop-i.invariant.0), c.args.past.now.small),
 )
 
 pub is_coming-requires : goal.is_coming-requires
 is_coming-requires c = (
-  rw c.record_at.ensures (bytes_length c.args.log.now
+  rw c.record.ensures (bytes_length c.args.past.now.log.now
       (c.loop-i.i - 1)
-      (omega (arith, c.requires.0, c.loop-i.invariant.0))),
-  c.requires.1,
+      (omega (arith, (bounds c.args.past.now), c.loop-i.invariant.0))),
+  (LENGTH c split),
 )
 
 pub returns-then-is_coming : goal.returns-then-is_coming
@@ -58,19 +59,19 @@ returns-then-is_coming c =
     let p = c.requires in
     λ ix.
     above_found
-    (walk_hit (by_coming a.cap a.node.0 a.range a.index (decode a.split.now).voters) a.log.now a.count (omega arith)
-    (l.invariant.1 ix) (comes_test a.log.now a.node.0 ix.1 p.0.within (l.i - 1) (omega (arith, l.invariant.0)) a.range a.index
+    (walk_hit (by_coming a.past.now.cap a.node.0 a.range a.index (decode a.split.now).voters) a.past.now.log.now a.past.now.count (omega arith)
+    (l.invariant.1 ix) (comes_test a.past.now.log.now a.node.0 ix.1 p.0.within (l.i - 1) (omega (arith, l.invariant.0)) a.range a.index
     (decode a.split.now).voters c.mark_at.ensures c.server_at.ensures
     (c.is_coming.ensures ∙ ap (λ (y : TraceRecord). is_by a.node.0 y && eqb y.a a.range && applying a.index y
     (not (eqb c.mark_at.result 0)) && any_of (λ v. eqb v c.server_at.result)
-    (decode a.split.now).voters) (record_bytes a.log.now _ c.record_at.ensures)))
-    (both (le-leb l.i a.count l.invariant.0) c.if-is_coming.true))
+    (decode a.split.now).voters) (record_bytes a.past.now.log.now _ c.record.ensures)))
+    (both (le-leb l.i a.past.now.count l.invariant.0) c.if-is_coming.true))
     c.loop-i-test.true
 
 pub hold_below-i-requires : goal.hold_below-i-requires
 hold_below-i-requires c = (
-  c.requires.0.work_holds,
-  (omega (arith, c.requires.0, c.loop-i.invariant.0), c.requires.0.small),
+  c.args.past.now.work_holds,
+  (omega (arith, (bounds c.args.past.now), c.loop-i.invariant.0), c.args.past.now.small),
 )
 
 pub loop-i-smaller : goal.loop-i-smaller
@@ -83,19 +84,19 @@ loop-i-preserved c =
     let p = c.requires in (
       omega (arith, c.hold_below-i.ensures.0, l.invariant.0),
       λ ix.
-          walk_next (by_coming a.cap a.node.0 a.range a.index (decode a.split.now).voters) a.log.now a.count a.count
+          walk_next (by_coming a.past.now.cap a.node.0 a.range a.index (decode a.split.now).voters) a.past.now.log.now a.past.now.count a.past.now.count
           ix.0.held p.0.within (omega arith) l.invariant.0 (l.invariant.1 ix)
-          (comes_test a.log.now a.node.0 ix.1 p.0.within (l.i - 1) (omega (arith, l.invariant.0)) a.range a.index
+          (comes_test a.past.now.log.now a.node.0 ix.1 p.0.within (l.i - 1) (omega (arith, l.invariant.0)) a.range a.index
           (decode a.split.now).voters c.mark_at.ensures c.server_at.ensures
           (c.is_coming.ensures ∙ ap
           (λ (y : TraceRecord). is_by a.node.0 y && eqb y.a a.range && applying a.index y
           (not (eqb c.mark_at.result 0)) && any_of (λ v. eqb v c.server_at.result)
-          (decode a.split.now).voters) (record_bytes a.log.now _ c.record_at.ensures)))
-          (ap (λ (t : Bool). leb l.i a.count && t) c.if-is_coming.false ∙ and-false (leb l.i a.count)) refl c.hold_below-i.ensures.1,
+          (decode a.split.now).voters) (record_bytes a.past.now.log.now _ c.record.ensures)))
+          (ap (λ (t : Bool). leb l.i a.past.now.count && t) c.if-is_coming.false ∙ and-false (leb l.i a.past.now.count)) refl c.hold_below-i.ensures.1,
     )
 
 pub returns : goal.returns
 returns c =
     let a = c.args in
-    λ ix. walk_low (comes a.node.0 a.range a.index (decode a.split.now).voters) (by_hold a.cap)
-    (bucket_by_two a.cap a.node.0 a.range) a.log.now a.count c.loop-i-test.false (c.loop-i.invariant.1 ix)
+    λ ix. walk_low (comes a.node.0 a.range a.index (decode a.split.now).voters) (by_hold a.past.now.cap)
+    (bucket_by_two a.past.now.cap a.node.0 a.range) a.past.now.log.now a.past.now.count c.loop-i-test.false (c.loop-i.invariant.1 ix)

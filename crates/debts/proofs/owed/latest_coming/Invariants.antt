@@ -11,8 +11,8 @@ use Rattle.debts.proofs.owed.latest_coming.Given as goal
 
 abbrev pub invariant-loop-i : goal.invariant-loop-i
 invariant-loop-i l =
-    (l.i ≤ l.count) × (Known l.cap (hist l.log l.count) l.work → Walking (comes l.node.0 l.range l.index (decode l.split).voters) (by_hold l.cap)
-    (bucket_by_two l.cap l.node.0 l.range) l.log l.count l.i)
+    (l.i ≤ l.past.count) × (Indexed Known l.past → Walking (comes l.node.0 l.range l.index (decode l.split).voters) (by_hold l.past.cap)
+    (bucket_by_two l.past.cap l.node.0 l.range) l.past.log.now l.past.count l.i)
 
 abbrev pub decreases-loop-i : goal.decreases-loop-i
 decreases-loop-i l = l.i

@@ -1,4 +1,5 @@
 -- The latest coming after the registering and the latest cancel; else the registering itself, where it is later than the cancel.
+use Rattle.history.proofs.Pasts.{bounds}
 use mathlib.Core.Path.{ap, ◌∙◌}
 use native.Mathlib.Omega.{arith}
 use mathlib.Core.Logic.{inl, inr}
@@ -13,51 +14,51 @@ use Rattle.debts.proofs.Comings.{floor_is, owes_coming, owes_cancelled, owes_at_
 use Rattle.debts.proofs.owed.owes_by.Goals.{then-cancel-t, else-cancel-t}
 use Rattle.debts.proofs.owed.owes_by.Goals as goal
 
-pub record_at-split-requires : goal.record_at-split-requires
-record_at-split-requires c = omega (arith, c.requires.0)
+pub record-split-requires : goal.record-split-requires
+record-split-requires c = omega (arith, (bounds c.args.past.now))
 
 pub parent_of-parent-requires : goal.parent_of-parent-requires
 parent_of-parent-requires c =
-    record_length c.args.log.now c.args.t c.record_at-split.ensures
-    (omega (arith, c.requires.0))
+    record_length c.args.past.now.log.now c.args.t c.record-split.ensures
+    (omega (arith, (bounds c.args.past.now)))
 
 pub b-index-requires : goal.b-index-requires
 b-index-requires c =
-    record_length c.args.log.now c.args.t c.record_at-split.ensures
-    (omega (arith, c.requires.0))
+    record_length c.args.past.now.log.now c.args.t c.record-split.ensures
+    (omega (arith, (bounds c.args.past.now)))
 
 pub latest_coming-requires : goal.latest_coming-requires
 latest_coming-requires c = (
-  c.requires.0,
-  record_length c.args.log.now
-      c.args.t c.record_at-split.ensures
-      (omega (arith, c.requires.0)),
+  (bounds c.args.past.now),
+  record_length c.args.past.now.log.now
+      c.args.t c.record-split.ensures
+      (omega (arith, (bounds c.args.past.now))),
 )
 
 pub returns-then-latest_coming-ne0 : goal.returns-then-latest_coming-ne0
 returns-then-latest_coming-ne0 c =
     let a = c.args in
     let f = c.if-cancel-t.floor in
-    let y = c.record_at-split.result.now in
-    λ ix. owes_coming a.log.now a.count a.node.0 a.t a.cancel
+    let y = c.record-split.result.now in
+    λ ix. owes_coming a.past.now.log.now a.past.now.count a.node.0 a.t a.cancel
     (floor_is _ _ _ (elim c.if-cancel-t.branch [
       | then-cancel-t w ↦ inl (w.if-cancel-t.true, w.floor-is)
       | else-cancel-t w ↦ inr
           (w.if-cancel-t.false, w.floor-is)
     ])) (c.latest_coming.ensures ix
     ∙ ap (λ (m : ℕ). above f (latest_number (comes a.node.0 m c.b-index.result (decode y).voters)
-    (hist a.log.now a.count))) c.parent_of-parent.ensures
-    ∙ ap (λ (m : ℕ). above f (latest_number (comes a.node.0 (parent_by (decode y)) m (decode y).voters) (hist a.log.now a.count)))
+    (hist a.past.now.log.now a.past.now.count))) c.parent_of-parent.ensures
+    ∙ ap (λ (m : ℕ). above f (latest_number (comes a.node.0 (parent_by (decode y)) m (decode y).voters) (hist a.past.now.log.now a.past.now.count)))
     c.b-index.ensures
-    ∙ ap (λ (z : TraceRecord). above f (latest_number (comes a.node.0 (parent_by z) z.b z.voters) (hist a.log.now a.count)))
-    (record_bytes a.log.now a.t c.record_at-split.ensures)) c.if-latest_coming-ne0.true
+    ∙ ap (λ (z : TraceRecord). above f (latest_number (comes a.node.0 (parent_by z) z.b z.voters) (hist a.past.now.log.now a.past.now.count)))
+    (record_bytes a.past.now.log.now a.t c.record-split.ensures)) c.if-latest_coming-ne0.true
 
 pub returns-then-t-cancel : goal.returns-then-t-cancel
 returns-then-t-cancel c =
     let a = c.args in
     let f = c.if-cancel-t.floor in
-    let y = c.record_at-split.result.now in
-    λ ix. owes_cancelled a.log.now a.count a.node.0 a.t a.cancel
+    let y = c.record-split.result.now in
+    λ ix. owes_cancelled a.past.now.log.now a.past.now.count a.node.0 a.t a.cancel
     (floor_is _ _ _ (elim c.if-cancel-t.branch [
       | then-cancel-t w ↦ inl (w.if-cancel-t.true, w.floor-is)
       | else-cancel-t w ↦ inr
@@ -65,22 +66,22 @@ returns-then-t-cancel c =
     ]))
     (c.latest_coming.ensures ix
     ∙ ap (λ (m : ℕ). above f (latest_number (comes a.node.0 m c.b-index.result (decode y).voters)
-    (hist a.log.now a.count))) c.parent_of-parent.ensures
-    ∙ ap (λ (m : ℕ). above f (latest_number (comes a.node.0 (parent_by (decode y)) m (decode y).voters) (hist a.log.now a.count)))
+    (hist a.past.now.log.now a.past.now.count))) c.parent_of-parent.ensures
+    ∙ ap (λ (m : ℕ). above f (latest_number (comes a.node.0 (parent_by (decode y)) m (decode y).voters) (hist a.past.now.log.now a.past.now.count)))
     c.b-index.ensures
-    ∙ ap (λ (z : TraceRecord). above f (latest_number (comes a.node.0 (parent_by z) z.b z.voters) (hist a.log.now a.count)))
-    (record_bytes a.log.now a.t c.record_at-split.ensures)) c.if-latest_coming-ne0.false c.if-t-cancel.true
+    ∙ ap (λ (z : TraceRecord). above f (latest_number (comes a.node.0 (parent_by z) z.b z.voters) (hist a.past.now.log.now a.past.now.count)))
+    (record_bytes a.past.now.log.now a.t c.record-split.ensures)) c.if-latest_coming-ne0.false c.if-t-cancel.true
 
 pub owes_first-requires : goal.owes_first-requires
 owes_first-requires c = (
-  c.requires.0,
+  (bounds c.args.past.now),
   (
-    omega (arith, c.requires.1),
+    omega (arith, c.requires),
     record_length
-        c.args.log.now
+        c.args.past.now.log.now
         c.args.t
-        c.record_at-split.ensures
-        (omega (arith, c.requires.0)),
+        c.record-split.ensures
+        (omega (arith, (bounds c.args.past.now))),
   ),
 )
 
@@ -88,8 +89,8 @@ pub returns : goal.returns
 returns c =
     let a = c.args in
     let f = c.if-cancel-t.floor in
-    let y = c.record_at-split.result.now in
-    λ ix. owes_at_first a.log.now a.count a.node.0 a.t a.cancel
+    let y = c.record-split.result.now in
+    λ ix. owes_at_first a.past.now.log.now a.past.now.count a.node.0 a.t a.cancel
     (floor_is _ _ _ (elim c.if-cancel-t.branch [
       | then-cancel-t w ↦ inl (w.if-cancel-t.true, w.floor-is)
       | else-cancel-t w ↦ inr
@@ -97,11 +98,11 @@ returns c =
     ]))
     (c.latest_coming.ensures ix
     ∙ ap (λ (m : ℕ). above f (latest_number (comes a.node.0 m c.b-index.result (decode y).voters)
-    (hist a.log.now a.count))) c.parent_of-parent.ensures
-    ∙ ap (λ (m : ℕ). above f (latest_number (comes a.node.0 (parent_by (decode y)) m (decode y).voters) (hist a.log.now a.count)))
+    (hist a.past.now.log.now a.past.now.count))) c.parent_of-parent.ensures
+    ∙ ap (λ (m : ℕ). above f (latest_number (comes a.node.0 (parent_by (decode y)) m (decode y).voters) (hist a.past.now.log.now a.past.now.count)))
     c.b-index.ensures
-    ∙ ap (λ (z : TraceRecord). above f (latest_number (comes a.node.0 (parent_by z) z.b z.voters) (hist a.log.now a.count)))
-    (record_bytes a.log.now a.t c.record_at-split.ensures)) c.if-latest_coming-ne0.false
+    ∙ ap (λ (z : TraceRecord). above f (latest_number (comes a.node.0 (parent_by z) z.b z.voters) (hist a.past.now.log.now a.past.now.count)))
+    (record_bytes a.past.now.log.now a.t c.record-split.ensures)) c.if-latest_coming-ne0.false
     c.if-t-cancel.false
-    (c.owes_first.ensures ix ∙ ap (owes_first a.log.now a.t a.node.0)
-    (record_bytes a.log.now a.t c.record_at-split.ensures))
+    (c.owes_first.ensures ix ∙ ap (owes_first a.past.now.log.now a.t a.node.0)
+    (record_bytes a.past.now.log.now a.t c.record-split.ensures))

@@ -11,8 +11,8 @@ returns-in-Puts c = let a = c.args in λ k clear. c.put_case.ensures k (sym (c.r
 
 pub returns-in-States : goal.returns-in-States
 returns-in-States c = let a = c.args in λ k clear. c.statement_case.ensures k
-    ∙ sym (agreement_states (decode a.rec.now) (hist a.log.now a.count) clear c.in-States.index (sym (c.role_of.ensures k) ∙ ap role_is c.in-States.is))
+    ∙ sym (agreement_states (decode a.rec.now) (hist a.past.now.log.now a.past.now.count) clear c.in-States.index (sym (c.role_of.ensures k) ∙ ap role_is c.in-States.is))
 
 pub returns-in-Neither : goal.returns-in-Neither
-returns-in-Neither c = let a = c.args in λ k clear. sym (agreement_neither (decode a.rec.now) (hist a.log.now a.count) clear
+returns-in-Neither c = let a = c.args in λ k clear. sym (agreement_neither (decode a.rec.now) (hist a.past.now.log.now a.past.now.count) clear
     (sym (c.role_of.ensures k) ∙ ap role_is c.in-Neither.is))

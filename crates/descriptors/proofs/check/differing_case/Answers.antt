@@ -17,7 +17,7 @@ returns-then-d c =
     let args = c.args in
     let value = decode args.value.now in
     let stated = decode args.stated.now in
-    let vs = standing (hist args.log.now args.count) in
+    let vs = standing (hist args.past.now.log.now args.past.now.count) in
     let other = sym c.same_held.ensures.answer ∙ c.if-same_held.false in
     let lower : value.d < stated.d = omega (arith, c.d.ensures, c.d-2.ensures, c.if-d.true) in
     λ k. differs_ahead value stated args.index vs other lower c.a.ensures c.d-then-d.ensures (c.ahead_case.ensures k)
@@ -27,7 +27,7 @@ returns c =
     let args = c.args in
     let value = decode args.value.now in
     let stated = decode args.stated.now in
-    let vs = standing (hist args.log.now args.count) in
+    let vs = standing (hist args.past.now.log.now args.past.now.count) in
     let other = sym c.same_held.ensures.answer ∙ c.if-same_held.false in
     let not_lower : stated.d ≤ value.d = omega (arith, c.d.ensures, c.d-2.ensures, c.if-d.false) in
     λ k. differs_behind value stated args.index vs other not_lower c.a-2.ensures (ap Some c.new.ensures)

@@ -18,22 +18,22 @@ loop-i-init c = let a = c.args in (
   (
     omega arith,
     λ k en el.
-        stands_first (Earliest a.cap (decode a.rec.now).a a.log.now
-        (new_faulty (entry_at a.index (decode a.rec.now) (hist a.log.now a.count)) (standing (hist a.log.now a.count))) 0)
-        (earliest_skip a.cap (decode a.rec.now).a a.log.now
-        (new_faulty (entry_at a.index (decode a.rec.now) (hist a.log.now a.count)) (standing (hist a.log.now a.count)))
-        (faulty_range (entry_at a.index (decode a.rec.now) (hist a.log.now a.count)) (standing (hist a.log.now a.count))) 0) k.stated
-        (omega (arith, c.bucket_by.ensures, ap (bucket_by a.cap) c.a.ensures))
-        (earliest_start a.cap (decode a.rec.now).a a.log.now (new_faulty (entry_at a.index (decode a.rec.now) (hist a.log.now a.count))
-        (standing (hist a.log.now a.count))) a.count)
-        (omega (arith, c.bucket_by.ensures, ap (bucket_by a.cap) c.a.ensures)) c.stated_top-i.ensures.1,
+        stands_first (Earliest a.past.now.cap (decode a.rec.now).a a.past.now.log.now
+        (new_faulty (entry_at a.index (decode a.rec.now) (hist a.past.now.log.now a.past.now.count)) (standing (hist a.past.now.log.now a.past.now.count))) 0)
+        (earliest_skip a.past.now.cap (decode a.rec.now).a a.past.now.log.now
+        (new_faulty (entry_at a.index (decode a.rec.now) (hist a.past.now.log.now a.past.now.count)) (standing (hist a.past.now.log.now a.past.now.count)))
+        (faulty_range (entry_at a.index (decode a.rec.now) (hist a.past.now.log.now a.past.now.count)) (standing (hist a.past.now.log.now a.past.now.count))) 0) k.stated
+        (omega (arith, c.bucket_by.ensures, ap (bucket_by a.past.now.cap) c.a.ensures))
+        (earliest_start a.past.now.cap (decode a.rec.now).a a.past.now.log.now (new_faulty (entry_at a.index (decode a.rec.now) (hist a.past.now.log.now a.past.now.count))
+        (standing (hist a.past.now.log.now a.past.now.count))) a.past.now.count)
+        (omega (arith, c.bucket_by.ensures, ap (bucket_by a.past.now.cap) c.a.ensures)) c.stated_top-i.ensures.1,
   ),
 )
 
 pub becomes_faulty-faulty-requires : goal.becomes_faulty-faulty-requires
 becomes_faulty-faulty-requires c = let p = c.requires in (
   p.0,
-  (p.1.0, (p.1.1.0, (p.1.1.1, record_length c.args.log.now (c.loop-i.i - 1) c.record_at.ensures (omega arith)))),
+  (p.1.0, (p.1.1.0, (p.1.1.1, record_length c.args.past.now.log.now (c.loop-i.i - 1) c.record.ensures (omega arith)))),
 )
 
 pub loop-i-preserved : goal.loop-i-preserved
@@ -43,18 +43,18 @@ loop-i-preserved c = let a = c.args in
       (
         choice c.becomes_faulty-faulty.result c.chosen-best.ensures (omega arith) (omega arith),
         λ k en el.
-            stands_next (Earliest a.cap (decode a.rec.now).a a.log.now
-            (new_faulty (entry_at a.index (decode a.rec.now) (hist a.log.now a.count)) (standing (hist a.log.now a.count))) c.chosen-best.result)
-            (earliest_skip a.cap (decode a.rec.now).a a.log.now
-            (new_faulty (entry_at a.index (decode a.rec.now) (hist a.log.now a.count)) (standing (hist a.log.now a.count)))
-            (faulty_range (entry_at a.index (decode a.rec.now) (hist a.log.now a.count))
-            (standing (hist a.log.now a.count))) c.chosen-best.result) k.stated
-            (omega arith) c.requires.0.within ((l.invariant.1.1 k en el).here (omega arith))
-            (earliest_next a.cap (decode a.rec.now).a a.log.now
-            (new_faulty (entry_at a.index (decode a.rec.now) (hist a.log.now a.count))
-            (standing (hist a.log.now a.count))) l.i l.best c.chosen-best.result (omega arith) ((l.invariant.1.1 k en el).here (omega arith))
+            stands_next (Earliest a.past.now.cap (decode a.rec.now).a a.past.now.log.now
+            (new_faulty (entry_at a.index (decode a.rec.now) (hist a.past.now.log.now a.past.now.count)) (standing (hist a.past.now.log.now a.past.now.count))) c.chosen-best.result)
+            (earliest_skip a.past.now.cap (decode a.rec.now).a a.past.now.log.now
+            (new_faulty (entry_at a.index (decode a.rec.now) (hist a.past.now.log.now a.past.now.count)) (standing (hist a.past.now.log.now a.past.now.count)))
+            (faulty_range (entry_at a.index (decode a.rec.now) (hist a.past.now.log.now a.past.now.count))
+            (standing (hist a.past.now.log.now a.past.now.count))) c.chosen-best.result) k.stated
+            (omega arith) c.args.past.now.within ((l.invariant.1.1 k en el).here (omega arith))
+            (earliest_next a.past.now.cap (decode a.rec.now).a a.past.now.log.now
+            (new_faulty (entry_at a.index (decode a.rec.now) (hist a.past.now.log.now a.past.now.count))
+            (standing (hist a.past.now.log.now a.past.now.count))) l.i l.best c.chosen-best.result (omega arith) ((l.invariant.1.1 k en el).here (omega arith))
             (l.invariant.1.1 k en el).same
-            (faulty_is a.log.now (l.i - 1) (decode a.rec.now) (hist a.log.now a.count) a.index a.next a.last en el c.record_at.ensures
+            (faulty_is a.past.now.log.now (l.i - 1) (decode a.rec.now) (hist a.past.now.log.now a.past.now.count) a.index a.next a.last en el c.record.ensures
             (c.becomes_faulty-faulty.ensures k))
             c.chosen-best.ensures)
             (omega arith) c.stated_below-i.ensures.1,
@@ -65,7 +65,7 @@ pub returns : goal.returns
 returns c = let a = c.args in
     let l = c.loop-i in (
       l.invariant.1.0,
-      λ k en el. earliest_done a.cap (decode a.rec.now).a a.log.now
-          (new_faulty (entry_at a.index (decode a.rec.now) (hist a.log.now a.count)) (standing (hist a.log.now a.count))) l.best l.i (omega arith)
+      λ k en el. earliest_done a.past.now.cap (decode a.rec.now).a a.past.now.log.now
+          (new_faulty (entry_at a.index (decode a.rec.now) (hist a.past.now.log.now a.past.now.count)) (standing (hist a.past.now.log.now a.past.now.count))) l.best l.i (omega arith)
           (l.invariant.1.1 k en el).same,
     )

@@ -1,4 +1,5 @@
 -- A walk along the range's statements, newest first: each that becomes faulty replaces the one found before, so the earliest stays.
+use Rattle.history.specs.Pasts.{taken}
 use Prim.Native.Nat.{◌≤◌}
 use mathlib.Core.Path.{◌≡◌}
 use Rattle.record.specs.Records.{decode}
@@ -14,14 +15,14 @@ use Rattle.descriptors.proofs.check.first_faulty.Given as goal
 
 abbrev pub invariant-loop-i : goal.invariant-loop-i
 invariant-loop-i l =
-    (l.i ≤ l.count)
-    × ((l.best ≤ l.count)
-    × (DescriptorsIndexed l.cap (hist l.log l.count) l.work → put l.log l.next
-    ≡ next_in (entry_at l.index (decode l.rec) (hist l.log l.count)) (standing (hist l.log l.count)) → put l.log l.last
-    ≡ last_in (entry_at l.index (decode l.rec) (hist l.log l.count)) (standing (hist l.log l.count))
-    → Stands (stated_bucket l.cap) (bucket_by l.cap (decode l.rec).a) l.log
-    (Earliest l.cap (decode l.rec).a l.log (new_faulty (entry_at l.index (decode l.rec) (hist l.log l.count)) (standing (hist l.log l.count))) l.best)
-    (earliest_of (new_faulty (entry_at l.index (decode l.rec) (hist l.log l.count)) (standing (hist l.log l.count))) (stated (hist l.log l.count))) l.i))
+    (l.i ≤ l.past.count)
+    × ((l.best ≤ l.past.count)
+    × (Indexed DescriptorsIndexed l.past → put l.past.log.now l.next
+    ≡ next_in (entry_at l.index (decode l.rec) (taken l.past)) (standing (taken l.past)) → put l.past.log.now l.last
+    ≡ last_in (entry_at l.index (decode l.rec) (taken l.past)) (standing (taken l.past))
+    → Stands (stated_bucket l.past.cap) (bucket_by l.past.cap (decode l.rec).a) l.past.log.now
+    (Earliest l.past.cap (decode l.rec).a l.past.log.now (new_faulty (entry_at l.index (decode l.rec) (taken l.past)) (standing (taken l.past))) l.best)
+    (earliest_of (new_faulty (entry_at l.index (decode l.rec) (taken l.past)) (standing (taken l.past))) (stated (taken l.past))) l.i))
 
 abbrev pub decreases-loop-i : goal.decreases-loop-i
 decreases-loop-i l = l.i

@@ -6,7 +6,7 @@ use Rattle.descriptors.proofs.check.last_of.Goals as goal
 
 pub returns-then-first_of-eq0 : goal.returns-then-first_of-eq0
 returns-then-first_of-eq0 c = let a = c.args in
-    (omega arith, λ k. no_last a.log.now c.first_of.result a.range a.generation (hist a.log.now a.count) c.if-first_of-eq0.true (c.first_of.ensures.1 k))
+    (omega arith, λ k. no_last a.past.now.log.now c.first_of.result a.range a.generation (hist a.past.now.log.now a.past.now.count) c.if-first_of-eq0.true (c.first_of.ensures.1 k))
 
 pub returns : goal.returns
 returns c = c.greatest.ensures

@@ -1,4 +1,5 @@
 -- Against the value that stands at the place, where one does; else it is a new value.
+use Rattle.history.proofs.Pasts.{bounds}
 use Rattle.std.specs.Prelude.{Some}
 use Prim.Native.Nat.{◌+◌, ◌*◌, ◌-◌, ◌≤◌}
 use lib.ListN.{length}
@@ -14,38 +15,38 @@ use Rattle.descriptors.proofs.check.put_case.Goals as goal
 pub returns-then-n-eq0 : goal.returns-then-n-eq0
 returns-then-n-eq0 c =
     let args = c.args in
-    let log = args.log.now in
+    let log = args.past.now.log.now in
     let x = decode args.rec.now in
-    let h = hist log args.count in
+    let h = hist log args.past.now.count in
     λ k role clear.
     let place = place_is x h args.index (standing h) c.a.ensures (c.standing_at-n.ensures.1 k) in
     c.new_put_case.ensures k role (place_free log c.standing_at-n.result x h args.index place c.if-n-eq0.true) clear
 
 pub same_held-requires : goal.same_held-requires
 same_held-requires c =
-    let log = c.args.log.now in
+    let log = c.args.past.now.log.now in
     let place = c.standing_at-n.result - 1 in
-    let within : 368 * place + 368 ≤ length log = omega (arith, c.requires.0, c.standing_at-n.ensures.0, c.if-n-eq0.false) in
-    (record_length log place c.record_at.ensures within, c.requires.1)
+    let within : 368 * place + 368 ≤ length log = omega (arith, (bounds c.args.past.now), c.standing_at-n.ensures.0, c.if-n-eq0.false) in
+    (record_length log place c.record.ensures within, (LENGTH c rec))
 
 pub returns-then-same_held : goal.returns-then-same_held
 returns-then-same_held c =
     let args = c.args in
-    let log = args.log.now in
+    let log = args.past.now.log.now in
     let x = decode args.rec.now in
-    let h = hist log args.count in
+    let h = hist log args.past.now.count in
     let same = sym c.same_held.ensures.answer ∙ c.if-same_held.true in
     λ k role clear.
     let place = place_is x h args.index (standing h) c.a.ensures (c.standing_at-n.ensures.1 k) in
-    put_same log c.standing_at-n.result x h args.index place role clear c.if-n-eq0.false c.record_at.ensures same
+    put_same log c.standing_at-n.result x h args.index place role clear c.if-n-eq0.false c.record.ensures same
 
 pub returns : goal.returns
 returns c =
     let args = c.args in
-    let log = args.log.now in
+    let log = args.past.now.log.now in
     let x = decode args.rec.now in
-    let h = hist log args.count in
-    let bytes = c.record_at.ensures in
+    let h = hist log args.past.now.count in
+    let bytes = c.record.ensures in
     let other = sym c.same_held.ensures.answer ∙ c.if-same_held.false in
     λ k role clear.
     let place = place_is x h args.index (standing h) c.a.ensures (c.standing_at-n.ensures.1 k) in

@@ -1,4 +1,5 @@
 -- The value in force at the index, where there is one, is what the statement is judged by.
+use Rattle.history.proofs.Pasts.{bounds}
 use Prim.Native.Nat.{◌-◌}
 use native.Mathlib.Omega.{arith}
 use Rattle.record.specs.Records.{decode}
@@ -9,19 +10,19 @@ use Rattle.descriptors.proofs.Judged.{state_none, state_some}
 use Rattle.descriptors.proofs.check.statement_case.Goals as goal
 
 pub returns-then-n-eq0 : goal.returns-then-n-eq0
-returns-then-n-eq0 c = let a = c.args in λ k. state_none a.log.now c.greatest-n.result (decode a.rec.now) (hist a.log.now a.count) a.index c.a.ensures
-    (standing (hist a.log.now a.count)) (c.greatest-n.ensures.1 k) c.if-n-eq0.true
+returns-then-n-eq0 c = let a = c.args in λ k. state_none a.past.now.log.now c.greatest-n.result (decode a.rec.now) (hist a.past.now.log.now a.past.now.count) a.index c.a.ensures
+    (standing (hist a.past.now.log.now a.past.now.count)) (c.greatest-n.ensures.1 k) c.if-n-eq0.true
 
 pub differing_case-requires : goal.differing_case-requires
 differing_case-requires c = (
-  c.requires.0,
+  (bounds c.args.past.now),
   (
-    record_length c.args.log.now (c.greatest-n.result - 1) c.record_at.ensures
+    record_length c.args.past.now.log.now (c.greatest-n.result - 1) c.record.ensures
         (omega (arith, c.greatest-n.ensures.0, c.if-n-eq0.false)),
-    c.requires.1,
+    (LENGTH c rec),
   ),
 )
 
 pub returns : goal.returns
-returns c = let a = c.args in λ k. state_some a.log.now c.greatest-n.result (decode a.rec.now) (hist a.log.now a.count) a.index c.a.ensures
-    (standing (hist a.log.now a.count)) (c.greatest-n.ensures.1 k) c.if-n-eq0.false c.record_at.ensures (c.differing_case.ensures k)
+returns c = let a = c.args in λ k. state_some a.past.now.log.now c.greatest-n.result (decode a.rec.now) (hist a.past.now.log.now a.past.now.count) a.index c.a.ensures
+    (standing (hist a.past.now.log.now a.past.now.count)) (c.greatest-n.ensures.1 k) c.if-n-eq0.false c.record.ensures (c.differing_case.ensures k)

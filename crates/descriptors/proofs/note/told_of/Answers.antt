@@ -10,9 +10,9 @@ pub returns-in-Puts : goal.returns-in-Puts
 returns-in-Puts c = let a = c.args in λ k. c.told_put.ensures k (sym (c.role_of.ensures k) ∙ ap role_is c.in-Puts.is)
 
 pub returns-in-States : goal.returns-in-States
-returns-in-States c = let a = c.args in λ k. told_states (decode a.rec.now) (hist a.log.now a.count) c.in-States.field-0
+returns-in-States c = let a = c.args in λ k. told_states (decode a.rec.now) (hist a.past.now.log.now a.past.now.count) c.in-States.field-0
     (sym (c.role_of.ensures k) ∙ ap role_is c.in-States.is) refl
 
 pub returns-in-Neither : goal.returns-in-Neither
-returns-in-Neither c = let a = c.args in λ k. told_neither (decode a.rec.now) (hist a.log.now a.count)
+returns-in-Neither c = let a = c.args in λ k. told_neither (decode a.rec.now) (hist a.past.now.log.now a.past.now.count)
     (sym (c.role_of.ensures k) ∙ ap role_is c.in-Neither.is) refl

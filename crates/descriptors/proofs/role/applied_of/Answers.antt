@@ -15,35 +15,35 @@ pub loop-i-init : goal.loop-i-init
 loop-i-init c = let a = c.args in (
   c.applied_top-i.ensures.0,
   λ k.
-      stands_first (λ n. applied a.id a.range (hist a.log.now n)) (applied_skip a.cap a.id a.range a.log.now) k.applied
+      stands_first (λ n. applied a.id a.range (hist a.past.now.log.now n)) (applied_skip a.past.now.cap a.id a.range a.past.now.log.now) k.applied
       (omega (arith, c.bucket_by_two.ensures)) (refl) (omega (arith, c.bucket_by_two.ensures)) c.applied_top-i.ensures.1,
 )
 
 pub is_applied-requires : goal.is_applied-requires
-is_applied-requires c = record_length c.args.log.now (c.loop-i.i - 1) c.record_at.ensures (omega arith)
+is_applied-requires c = record_length c.args.past.now.log.now (c.loop-i.i - 1) c.record.ensures (omega arith)
 
 pub b-requires : goal.b-requires
-b-requires c = record_length c.args.log.now (c.loop-i.i - 1) c.record_at-then-is_applied.ensures (omega arith)
+b-requires c = record_length c.args.past.now.log.now (c.loop-i.i - 1) c.record-then-is_applied.ensures (omega arith)
 
 pub returns-then-is_applied : goal.returns-then-is_applied
 returns-then-is_applied c = let a = c.args in
     let l = c.loop-i in λ k.
-    sym ((l.invariant.1 k).same ∙ applied_hit a.id a.range a.log.now l.i (omega arith) c.record_at.ensures
+    sym ((l.invariant.1 k).same ∙ applied_hit a.id a.range a.past.now.log.now l.i (omega arith) c.record.ensures
     c.is_applied.ensures c.if-is_applied.true
-    (c.b.ensures ∙ ap (λ (x : TraceRecord). x.b) (record_bytes a.log.now (l.i - 1) c.record_at-then-is_applied.ensures)))
+    (c.b.ensures ∙ ap (λ (x : TraceRecord). x.b) (record_bytes a.past.now.log.now (l.i - 1) c.record-then-is_applied.ensures)))
 
 pub loop-i-preserved : goal.loop-i-preserved
 loop-i-preserved c = let a = c.args in
     let l = c.loop-i in (
       omega (arith, c.applied_below-i.ensures.0),
       λ k.
-          stands_next (λ n. applied a.id a.range (hist a.log.now n)) (applied_skip a.cap a.id a.range a.log.now) k.applied
+          stands_next (λ n. applied a.id a.range (hist a.past.now.log.now n)) (applied_skip a.past.now.cap a.id a.range a.past.now.log.now) k.applied
           (omega arith) (omega arith) ((l.invariant.1 k).here (omega arith))
-          ((l.invariant.1 k).same ∙ applied_miss a.id a.range a.log.now l.i (omega arith) c.record_at.ensures
+          ((l.invariant.1 k).same ∙ applied_miss a.id a.range a.past.now.log.now l.i (omega arith) c.record.ensures
           c.is_applied.ensures c.if-is_applied.false)
           (omega arith) c.applied_below-i.ensures.1,
     )
 
 pub returns : goal.returns
 returns c = let a = c.args in
-    let l = c.loop-i in λ k. sym ((l.invariant.1 k).same ∙ applied_end a.id a.range a.log.now l.i (omega arith))
+    let l = c.loop-i in λ k. sym ((l.invariant.1 k).same ∙ applied_end a.id a.range a.past.now.log.now l.i (omega arith))

@@ -1,5 +1,6 @@
 -- A walk along the chain of node and range: the first record that tells the applied index is the latest that does, since
 -- records outside the bucket tell none.
+use Rattle.history.specs.Pasts.{taken}
 use Prim.Native.Nat.{◌≤◌}
 use Rattle.rules.specs.Descriptors.{applied}
 use Rattle.history.proofs.Chains.{Stands}
@@ -10,10 +11,10 @@ use Rattle.descriptors.proofs.role.applied_of.Given as goal
 
 abbrev pub invariant-loop-i : goal.invariant-loop-i
 invariant-loop-i l =
-    (l.i ≤ l.count)
-    × (DescriptorsIndexed l.cap (hist l.log l.count) l.work
-    → Stands (applied_bucket l.cap) (bucket_by_two l.cap l.id l.range) l.log (λ n. applied l.id l.range (hist l.log n))
-    (applied l.id l.range (hist l.log l.count)) l.i)
+    (l.i ≤ l.past.count)
+    × (Indexed DescriptorsIndexed l.past
+    → Stands (applied_bucket l.past.cap) (bucket_by_two l.past.cap l.id l.range) l.past.log.now (λ n. applied l.id l.range (hist l.past.log.now n))
+    (applied l.id l.range (taken l.past)) l.i)
 
 abbrev pub decreases-loop-i : goal.decreases-loop-i
 decreases-loop-i l = l.i

@@ -7,7 +7,7 @@ use Rattle.descriptors.specs.Answers.{found_by}
 use Rattle.descriptors.proofs.value.before.Goals as goal
 
 pub returns-then-index-eq0 : goal.returns-then-index-eq0
-returns-then-index-eq0 c = let a = c.args in λ k. sym (ap found_by (before_zero a.range a.index (hist a.log.now a.count) c.if-index-eq0.true))
+returns-then-index-eq0 c = let a = c.args in λ k. sym (ap found_by (before_zero a.range a.index (hist a.past.now.log.now a.past.now.count) c.if-index-eq0.true))
 
 pub returns : goal.returns
-returns c = let a = c.args in λ k. c.at.ensures k ∙ ap found_by (before_at a.range a.index (hist a.log.now a.count) (omega (arith, c.if-index-eq0.false)))
+returns c = let a = c.args in λ k. c.at.ensures k ∙ ap found_by (before_at a.range a.index (hist a.past.now.log.now a.past.now.count) (omega (arith, c.if-index-eq0.false)))

@@ -13,20 +13,20 @@ pub loop-i-init : goal.loop-i-init
 loop-i-init c = let a = c.args in (
   c.generation_top-i.ensures.0,
   λ k.
-      stands_first (λ n. first_at_generation a.range a.generation (hist a.log.now n)) (generation_skip a.cap a.range a.generation a.log.now) k.generation
+      stands_first (λ n. first_at_generation a.range a.generation (hist a.past.now.log.now n)) (generation_skip a.past.now.cap a.range a.generation a.past.now.log.now) k.generation
       (omega (arith, c.bucket_by_two.ensures)) (refl) (omega (arith, c.bucket_by_two.ensures)) c.generation_top-i.ensures.1,
 )
 
 pub is_of-requires : goal.is_of-requires
-is_of-requires c = record_length c.args.log.now (c.loop-i.i - 1) c.record_at.ensures (omega arith)
+is_of-requires c = record_length c.args.past.now.log.now (c.loop-i.i - 1) c.record.ensures (omega arith)
 
 pub returns-then-is_of : goal.returns-then-is_of
 returns-then-is_of c = let a = c.args in
     let l = c.loop-i in (
       omega arith,
       λ k.
-          sym ((l.invariant.1 k).same ∙ generation_hit a.cap a.range a.generation a.log.now l.i (omega arith) ((l.invariant.1 k).here (omega arith))
-          (of_is a.log.now (l.i - 1) c.record_at.ensures a.range a.generation c.is_of.ensures) c.if-is_of.true),
+          sym ((l.invariant.1 k).same ∙ generation_hit a.past.now.cap a.range a.generation a.past.now.log.now l.i (omega arith) ((l.invariant.1 k).here (omega arith))
+          (of_is a.past.now.log.now (l.i - 1) c.record.ensures a.range a.generation c.is_of.ensures) c.if-is_of.true),
     )
 
 pub loop-i-preserved : goal.loop-i-preserved
@@ -34,13 +34,13 @@ loop-i-preserved c = let a = c.args in
     let l = c.loop-i in (
       omega (arith, c.generation_below-i.ensures.0),
       λ k.
-          stands_next (λ n. first_at_generation a.range a.generation (hist a.log.now n)) (generation_skip a.cap a.range a.generation a.log.now) k.generation
+          stands_next (λ n. first_at_generation a.range a.generation (hist a.past.now.log.now n)) (generation_skip a.past.now.cap a.range a.generation a.past.now.log.now) k.generation
           (omega arith) (omega arith) ((l.invariant.1 k).here (omega arith))
-          ((l.invariant.1 k).same ∙ generation_miss a.cap a.range a.generation a.log.now l.i (omega arith) ((l.invariant.1 k).here (omega arith))
-          (of_is a.log.now (l.i - 1) c.record_at.ensures a.range a.generation c.is_of.ensures) c.if-is_of.false)
+          ((l.invariant.1 k).same ∙ generation_miss a.past.now.cap a.range a.generation a.past.now.log.now l.i (omega arith) ((l.invariant.1 k).here (omega arith))
+          (of_is a.past.now.log.now (l.i - 1) c.record.ensures a.range a.generation c.is_of.ensures) c.if-is_of.false)
           (omega arith) c.generation_below-i.ensures.1,
     )
 
 pub returns : goal.returns
 returns c = let a = c.args in
-    let l = c.loop-i in (omega arith, λ k. sym ((l.invariant.1 k).same ∙ generation_end a.cap a.range a.generation a.log.now l.i (omega arith)))
+    let l = c.loop-i in (omega arith, λ k. sym ((l.invariant.1 k).same ∙ generation_end a.past.now.cap a.range a.generation a.past.now.log.now l.i (omega arith)))

@@ -1,4 +1,5 @@
 -- A walk along the first values of generations: the one of the range and generation is the earliest standing value of both.
+use Rattle.history.specs.Pasts.{taken}
 use Prim.Native.Nat.{◌≤◌}
 use Rattle.rules.specs.Descriptors.{first_at_generation}
 use Rattle.history.proofs.Chains.{Stands}
@@ -9,10 +10,10 @@ use Rattle.descriptors.proofs.value.first_of.Given as goal
 
 abbrev pub invariant-loop-i : goal.invariant-loop-i
 invariant-loop-i l =
-    (l.i ≤ l.count)
-    × (DescriptorsIndexed l.cap (hist l.log l.count) l.work
-    → Stands (generation_bucket l.cap) (bucket_by_two l.cap l.range l.generation) l.log (λ n. first_at_generation l.range l.generation (hist l.log n))
-    (first_at_generation l.range l.generation (hist l.log l.count)) l.i)
+    (l.i ≤ l.past.count)
+    × (Indexed DescriptorsIndexed l.past
+    → Stands (generation_bucket l.past.cap) (bucket_by_two l.past.cap l.range l.generation) l.past.log.now (λ n. first_at_generation l.range l.generation (hist l.past.log.now n))
+    (first_at_generation l.range l.generation (taken l.past)) l.i)
 
 abbrev pub decreases-loop-i : goal.decreases-loop-i
 decreases-loop-i l = l.i

@@ -17,26 +17,26 @@ loop-i-init c = let a = c.args in (
   (
     omega arith,
     λ k.
-        stands_first (Lowest a.cap a.range a.log.now (above a.range a.index a.any a.generation) 0)
-        (lowest_skip a.cap a.range a.log.now (above a.range a.index a.any a.generation) (above_range a.range a.index a.any a.generation) 0) k.standing
+        stands_first (Lowest a.past.now.cap a.range a.past.now.log.now (above a.range a.index a.any a.generation) 0)
+        (lowest_skip a.past.now.cap a.range a.past.now.log.now (above a.range a.index a.any a.generation) (above_range a.range a.index a.any a.generation) 0) k.standing
         (omega (arith, c.bucket_by.ensures)) (sym (lower_none (λ v. v.index) _)) (omega (arith, c.bucket_by.ensures)) c.standing_top-i.ensures.1,
   ),
 )
 
 pub is_above-passes-requires : goal.is_above-passes-requires
-is_above-passes-requires c = record_length c.args.log.now (c.loop-i.i - 1) c.record_at.ensures (omega arith)
+is_above-passes-requires c = record_length c.args.past.now.log.now (c.loop-i.i - 1) c.record.ensures (omega arith)
 
 pub returns-then-rest_below : goal.returns-then-rest_below
 returns-then-rest_below c = let a = c.args in
     let l = c.loop-i in (
       c.lower-best.ensures.1 _ (omega arith) (omega arith),
       λ k.
-          lowest_stop a.cap a.log.now a.work.now a.count (l.i - 1) (omega arith) (omega arith) (omega arith) k ((l.invariant.1.1 k).here (omega arith))
+          lowest_stop a.past.now.cap a.past.now.log.now a.past.now.work.now a.past.now.count (l.i - 1) (omega arith) (omega arith) (omega arith) k ((l.invariant.1.1 k).here (omega arith))
           a.range a.index c.rest_below.ensures c.if-rest_below.true a.any a.generation c.lower-best.result
-          (lowest_next a.cap a.range a.log.now (above a.range a.index a.any a.generation) l.best c.lower-best.result l.i (omega arith)
+          (lowest_next a.past.now.cap a.range a.past.now.log.now (above a.range a.index a.any a.generation) l.best c.lower-best.result l.i (omega arith)
           ((l.invariant.1.1 k).here (omega arith))
-          (l.invariant.1.1 k).same (above_is a.log.now
-          (l.i - 1) c.record_at.ensures a.range a.index a.any a.generation c.is_above-passes.ensures) c.lower-best.ensures.0),
+          (l.invariant.1.1 k).same (above_is a.past.now.log.now
+          (l.i - 1) c.record.ensures a.range a.index a.any a.generation c.is_above-passes.ensures) c.lower-best.ensures.0),
     )
 
 pub loop-i-preserved : goal.loop-i-preserved
@@ -46,14 +46,14 @@ loop-i-preserved c = let a = c.args in
       (
         c.lower-best.ensures.1 _ (omega arith) (omega arith),
         λ k.
-            stands_next (Lowest a.cap a.range a.log.now (above a.range a.index a.any a.generation) c.lower-best.result)
-            (lowest_skip a.cap a.range a.log.now (above a.range a.index a.any a.generation)
+            stands_next (Lowest a.past.now.cap a.range a.past.now.log.now (above a.range a.index a.any a.generation) c.lower-best.result)
+            (lowest_skip a.past.now.cap a.range a.past.now.log.now (above a.range a.index a.any a.generation)
             (above_range a.range a.index a.any a.generation) c.lower-best.result) k.standing
             (omega arith) (omega arith) ((l.invariant.1.1 k).here (omega arith))
-            (lowest_next a.cap a.range a.log.now (above a.range a.index a.any a.generation) l.best c.lower-best.result l.i (omega arith)
+            (lowest_next a.past.now.cap a.range a.past.now.log.now (above a.range a.index a.any a.generation) l.best c.lower-best.result l.i (omega arith)
             ((l.invariant.1.1 k).here (omega arith))
-            (l.invariant.1.1 k).same (above_is a.log.now
-            (l.i - 1) c.record_at.ensures a.range a.index a.any a.generation c.is_above-passes.ensures) c.lower-best.ensures.0)
+            (l.invariant.1.1 k).same (above_is a.past.now.log.now
+            (l.i - 1) c.record.ensures a.range a.index a.any a.generation c.is_above-passes.ensures) c.lower-best.ensures.0)
             (omega arith) c.standing_below-i.ensures.1,
       ),
     )
@@ -61,4 +61,4 @@ loop-i-preserved c = let a = c.args in
 pub returns : goal.returns
 returns c = let a = c.args in
     let l = c.loop-i in
-    (l.invariant.1.0, λ k. lowest_done a.cap a.range a.log.now (above a.range a.index a.any a.generation) l.best l.i (omega arith) (l.invariant.1.1 k).same)
+    (l.invariant.1.0, λ k. lowest_done a.past.now.cap a.range a.past.now.log.now (above a.range a.index a.any a.generation) l.best l.i (omega arith) (l.invariant.1.1 k).same)

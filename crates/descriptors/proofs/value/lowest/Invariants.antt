@@ -1,5 +1,6 @@
 -- A walk along the range's standing values: the best so far, weighed against the lowest of the rest, stays the lowest of all,
 -- and past a marked one that is not above the index the rest is below it.
+use Rattle.history.specs.Pasts.{taken}
 use Prim.Native.Nat.{◌≤◌}
 use Rattle.rules.specs.Descriptors.{standing}
 use Rattle.history.proofs.Chains.{Stands}
@@ -12,11 +13,11 @@ use Rattle.descriptors.proofs.value.lowest.Given as goal
 
 abbrev pub invariant-loop-i : goal.invariant-loop-i
 invariant-loop-i l =
-    (l.i ≤ l.count)
-    × ((l.best ≤ l.count)
-    × (DescriptorsIndexed l.cap (hist l.log l.count) l.work
-    → Stands (standing_bucket l.cap) (bucket_by l.cap l.range) l.log (Lowest l.cap l.range l.log (above l.range l.index l.any l.generation) l.best)
-    (lowest_above l.range l.index l.any l.generation (standing (hist l.log l.count))) l.i))
+    (l.i ≤ l.past.count)
+    × ((l.best ≤ l.past.count)
+    × (Indexed DescriptorsIndexed l.past
+    → Stands (standing_bucket l.past.cap) (bucket_by l.past.cap l.range) l.past.log.now (Lowest l.past.cap l.range l.past.log.now (above l.range l.index l.any l.generation) l.best)
+    (lowest_above l.range l.index l.any l.generation (standing (taken l.past))) l.i))
 
 abbrev pub decreases-loop-i : goal.decreases-loop-i
 decreases-loop-i l = l.i

@@ -17,20 +17,20 @@ pub loop-i-init : goal.loop-i-init
 loop-i-init c = let a = c.args in (
   c.standing_top-i.ensures.0,
   λ k.
-      stands_first (λ n. latest_of (at_place a.range a.index) (standing (hist a.log.now n))) (place_skip a.cap a.range a.index a.log.now) k.standing
+      stands_first (λ n. latest_of (at_place a.range a.index) (standing (hist a.past.now.log.now n))) (place_skip a.past.now.cap a.range a.index a.past.now.log.now) k.standing
       (omega (arith, c.bucket_by.ensures)) (refl) (omega (arith, c.bucket_by.ensures)) c.standing_top-i.ensures.1,
 )
 
 pub is_at-requires : goal.is_at-requires
-is_at-requires c = record_length c.args.log.now (c.loop-i.i - 1) c.record_at.ensures (omega arith)
+is_at-requires c = record_length c.args.past.now.log.now (c.loop-i.i - 1) c.record.ensures (omega arith)
 
 pub returns-then-is_at : goal.returns-then-is_at
 returns-then-is_at c = let a = c.args in
     let l = c.loop-i in (
       omega arith,
       λ k.
-          sym ((l.invariant.1 k).same ∙ place_hit a.cap a.range a.index a.log.now l.i (omega arith) ((l.invariant.1 k).here (omega arith))
-          (at_is a.log.now (l.i - 1) c.record_at.ensures a.range a.index c.is_at.ensures) c.if-is_at.true),
+          sym ((l.invariant.1 k).same ∙ place_hit a.past.now.cap a.range a.index a.past.now.log.now l.i (omega arith) ((l.invariant.1 k).here (omega arith))
+          (at_is a.past.now.log.now (l.i - 1) c.record.ensures a.range a.index c.is_at.ensures) c.if-is_at.true),
     )
 
 pub returns-then-rest_below : goal.returns-then-rest_below
@@ -38,9 +38,9 @@ returns-then-rest_below c = let a = c.args in
     let l = c.loop-i in (
       omega arith,
       λ k.
-          sym ((l.invariant.1 k).same ∙ place_miss a.cap a.range a.index a.log.now l.i (omega arith) ((l.invariant.1 k).here (omega arith))
-          (at_is a.log.now (l.i - 1) c.record_at.ensures a.range a.index c.is_at.ensures) c.if-is_at.false
-          ∙ place_stop a.cap a.log.now a.work.now a.count (l.i - 1) (omega arith) (omega arith) (omega arith) k ((l.invariant.1 k).here (omega arith))
+          sym ((l.invariant.1 k).same ∙ place_miss a.past.now.cap a.range a.index a.past.now.log.now l.i (omega arith) ((l.invariant.1 k).here (omega arith))
+          (at_is a.past.now.log.now (l.i - 1) c.record.ensures a.range a.index c.is_at.ensures) c.if-is_at.false
+          ∙ place_stop a.past.now.cap a.past.now.log.now a.past.now.work.now a.past.now.count (l.i - 1) (omega arith) (omega arith) (omega arith) k ((l.invariant.1 k).here (omega arith))
           a.range a.index c.rest_below.ensures c.if-rest_below.true),
     )
 
@@ -49,13 +49,13 @@ loop-i-preserved c = let a = c.args in
     let l = c.loop-i in (
       omega (arith, c.standing_below-i.ensures.0),
       λ k.
-          stands_next (λ n. latest_of (at_place a.range a.index) (standing (hist a.log.now n))) (place_skip a.cap a.range a.index a.log.now) k.standing
+          stands_next (λ n. latest_of (at_place a.range a.index) (standing (hist a.past.now.log.now n))) (place_skip a.past.now.cap a.range a.index a.past.now.log.now) k.standing
           (omega arith) (omega arith) ((l.invariant.1 k).here (omega arith))
-          ((l.invariant.1 k).same ∙ place_miss a.cap a.range a.index a.log.now l.i (omega arith) ((l.invariant.1 k).here (omega arith))
-          (at_is a.log.now (l.i - 1) c.record_at.ensures a.range a.index c.is_at.ensures) c.if-is_at.false)
+          ((l.invariant.1 k).same ∙ place_miss a.past.now.cap a.range a.index a.past.now.log.now l.i (omega arith) ((l.invariant.1 k).here (omega arith))
+          (at_is a.past.now.log.now (l.i - 1) c.record.ensures a.range a.index c.is_at.ensures) c.if-is_at.false)
           (omega arith) c.standing_below-i.ensures.1,
     )
 
 pub returns : goal.returns
 returns c = let a = c.args in
-    let l = c.loop-i in (omega arith, λ k. sym ((l.invariant.1 k).same ∙ place_end a.cap a.range a.index a.log.now l.i (omega arith)))
+    let l = c.loop-i in (omega arith, λ k. sym ((l.invariant.1 k).same ∙ place_end a.past.now.cap a.range a.index a.past.now.log.now l.i (omega arith)))

@@ -1,5 +1,5 @@
 -- What is found is the newest first grant at the index; what was passed over has none.
-use mathlib.Core.Path.{◌≡◌, refl, sym, ap, ◌∙◌}
+use mathlib.Core.Path.{refl, sym, ◌∙◌}
 use Rattle.std.proofs.Common.{rules}
 use borrow.Author.Tests.{tests}
 use Rattle.history.proofs.Pasts.{on_first}

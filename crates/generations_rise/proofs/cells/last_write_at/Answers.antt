@@ -14,7 +14,7 @@ pub loop-i-init : goal.loop-i-init
 loop-i-init c =
     let a = c.args in (
       c.link-i.ensures.0,
-      λ k. stands_first (λ n. last_write_at (key_in a.place.now) (hist a.log.now n)) (last_skip (key_in a.place.now) a.log.now a.cap) k.keys
+      λ k. stands_first (λ n. last_write_at (key_in a.place.now) (hist a.past.now.log.now n)) (last_skip (key_in a.place.now) a.past.now.log.now a.past.now.cap) k.keys
           (rw (← c.bucket_by_key.ensures.0) c.bucket_by_key.ensures.1)
           refl
           (rw c.bucket_by_key.ensures.0)
@@ -22,28 +22,28 @@ loop-i-init c =
     )
 
 pub has_key-requires : goal.has_key-requires
-has_key-requires c = record_length _ _ c.record_at.ensures (omega arith)
+has_key-requires c = record_length _ _ c.record.ensures (omega arith)
 
 pub returns-then-has_key : goal.returns-then-has_key
 returns-then-has_key c =
     let a = c.args in (
       omega arith,
       λ k. sym ((c.loop-i.invariant.1 k).same
-          ∙ last_hit (key_in a.place.now) a.log.now a.cap (omega arith) ((c.loop-i.invariant.1 k).here (omega arith))
-          (read_at (starts_with (key_in a.place.now)) _ _ c.record_at.ensures c.has_key.ensures ∙ c.if-has_key.true)),
+          ∙ last_hit (key_in a.place.now) a.past.now.log.now a.past.now.cap (omega arith) ((c.loop-i.invariant.1 k).here (omega arith))
+          (read_at (starts_with (key_in a.place.now)) _ _ c.record.ensures c.has_key.ensures ∙ c.if-has_key.true)),
     )
 
 pub loop-i-preserved : goal.loop-i-preserved
 loop-i-preserved c =
     let a = c.args in (
       omega (arith, c.link-i-in-loop-i.ensures.0),
-      λ k. stands_next (λ n. last_write_at (key_in a.place.now) (hist a.log.now n)) (last_skip (key_in a.place.now) a.log.now a.cap) k.keys
+      λ k. stands_next (λ n. last_write_at (key_in a.place.now) (hist a.past.now.log.now n)) (last_skip (key_in a.place.now) a.past.now.log.now a.past.now.cap) k.keys
           (omega arith)
           (omega arith)
           ((c.loop-i.invariant.1 k).here (omega arith))
           ((c.loop-i.invariant.1 k).same
-          ∙ last_miss (key_in a.place.now) a.log.now a.cap (omega arith) ((c.loop-i.invariant.1 k).here (omega arith))
-          (read_at (starts_with (key_in a.place.now)) _ _ c.record_at.ensures c.has_key.ensures
+          ∙ last_miss (key_in a.place.now) a.past.now.log.now a.past.now.cap (omega arith) ((c.loop-i.invariant.1 k).here (omega arith))
+          (read_at (starts_with (key_in a.place.now)) _ _ c.record.ensures c.has_key.ensures
           ∙ c.if-has_key.false))
           (omega arith)
           c.link-i-in-loop-i.ensures.1,

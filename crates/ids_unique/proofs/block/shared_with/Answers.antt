@@ -14,28 +14,28 @@ pub loop-i-init : goal.loop-i-init
 loop-i-init c =
     let a = c.args in (
       c.block_below-i.ensures.0,
-      λ k. block_stands a.log.now _ (blocks_skip a.log.now (weigh_all a.first a.last (record { any = false; top = 0 }))) refl
-          (c.block_below-i.ensures.1 a.log.now a.count (omega arith) (omega arith) k),
+      λ k. block_stands a.past.now.log.now _ (blocks_skip a.past.now.log.now (weigh_all a.first a.last (record { any = false; top = 0 }))) refl
+          (c.block_below-i.ensures.1 a.past.now.log.now a.past.now.count (omega arith) (omega arith) k),
     )
 
 pub d-requires : goal.d-requires
-d-requires c = record_length _ _ c.record_at-rec.ensures (omega arith)
+d-requires c = record_length _ _ c.record-rec.ensures (omega arith)
 
 pub e-requires : goal.e-requires
-e-requires c = record_length _ _ c.record_at-rec.ensures (omega arith)
+e-requires c = record_length _ _ c.record-rec.ensures (omega arith)
 
 pub loop-i-preserved : goal.loop-i-preserved
 loop-i-preserved c =
     let a = c.args in
-    let r = c.record_at-rec.ensures in (
+    let r = c.record-rec.ensures in (
       omega (arith, c.block_below-i-in-loop-i.ensures.0),
-      λ k. block_stands a.log.now _ (blocks_skip a.log.now (weigh_all a.first a.last c.weighed-s.result))
-          (share_turn a.first a.last a.log.now c.loop-i.s (omega arith) ((c.loop-i.invariant.1 k).here (omega arith))
+      λ k. block_stands a.past.now.log.now _ (blocks_skip a.past.now.log.now (weigh_all a.first a.last c.weighed-s.result))
+          (share_turn a.first a.last a.past.now.log.now c.loop-i.s (omega arith) ((c.loop-i.invariant.1 k).here (omega arith))
           (read_at (λ (x : TraceRecord). x.d) _ _ r c.d.ensures)
           (read_at (λ (x : TraceRecord). x.e) _ _ r c.e.ensures)
           c.weighed-s.ensures
           (c.loop-i.invariant.1 k).same)
-          (c.block_below-i-in-loop-i.ensures.1 a.log.now a.count (omega arith) (omega arith) k),
+          (c.block_below-i-in-loop-i.ensures.1 a.past.now.log.now a.past.now.count (omega arith) (omega arith) k),
     )
 
 pub returns : goal.returns

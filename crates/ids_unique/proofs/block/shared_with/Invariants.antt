@@ -1,4 +1,5 @@
 -- A walk from block to block: what is weighed so far, with what is still to weigh, is what all weigh.
+use Rattle.history.specs.Pasts.{taken}
 use mathlib.Core.Bool.{false}
 use Prim.Native.Nat.{◌≤◌}
 use Rattle.rules.specs.IdsUnique.{blocks_of}
@@ -10,10 +11,10 @@ use Rattle.ids_unique.proofs.block.shared_with.Given as goal
 
 abbrev pub invariant-loop-i : goal.invariant-loop-i
 invariant-loop-i l =
-    (l.i ≤ l.count)
-    × (IdsIndexed l.cap (hist l.log l.count) l.work
-    → Stands block_bucket 0 l.log (λ n. weigh_all l.first l.last l.s (blocks_of (hist l.log n)))
-    (weigh_all l.first l.last (record { any = false; top = 0 }) (blocks_of (hist l.log l.count))) l.i)
+    (l.i ≤ l.past.count)
+    × (Indexed IdsIndexed l.past
+    → Stands block_bucket 0 l.past.log.now (λ n. weigh_all l.first l.last l.s (blocks_of (hist l.past.log.now n)))
+    (weigh_all l.first l.last (record { any = false; top = 0 }) (blocks_of (taken l.past))) l.i)
 
 abbrev pub decreases-loop-i : goal.decreases-loop-i
 decreases-loop-i l = l.i

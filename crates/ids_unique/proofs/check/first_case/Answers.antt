@@ -19,7 +19,7 @@ pub returns-then-greatest_last-first : goal.returns-then-greatest_last-first
 returns-then-greatest_last-first c =
     let a = c.args in
     λ k. apart_case (grant_by (decode a.rec.now)) _ c.d-first.ensures c.e-last.ensures c.if-last-first.false
-    (c.greatest_last.ensures a.log.now a.count (omega arith) (omega arith) k)
+    (c.greatest_last.ensures a.past.now.log.now a.past.now.count (omega arith) (omega arith) k)
     c.if-greatest_last-first.true
 
 pub returns-then-s : goal.returns-then-s

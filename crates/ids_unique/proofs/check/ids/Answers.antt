@@ -16,11 +16,11 @@ returns-then-n-eq0 c =
 pub again_case-requires : goal.again_case-requires
 again_case-requires c =
     let p = c.requires in
-    (p.1, record_length _ _ c.record_at.ensures (omega (arith, c.grant_at-n.ensures.0, p.0.log_holds)))
+    (p.1, record_length _ _ c.record.ensures (omega (arith, c.grant_at-n.ensures.0, p.0.log_holds)))
 
 pub returns : goal.returns
 returns c =
     λ k j. again_case _ _ _ c.b.ensures (c.grant_at-n.ensures.1 k) c.kind.ensures c.if-kind-ne11.false
     c.if-n-eq0.false
-    c.record_at.ensures
+    c.record.ensures
     c.again_case.ensures

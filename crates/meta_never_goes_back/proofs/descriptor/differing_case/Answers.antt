@@ -12,7 +12,7 @@ pub returns-then-count-number : goal.returns-then-count-number
 returns-then-count-number c = λ k e l. absurd (omega arith)
 
 pub same_named-requires : goal.same_named-requires
-same_named-requires c = (record_length _ _ c.record_at.ensures (omega arith), c.requires.1.1)
+same_named-requires c = (record_length _ _ c.record_at.ensures (omega arith), (LENGTH c rec))
 
 pub returns-then-same_named : goal.returns-then-same_named
 returns-then-same_named c =

@@ -8,7 +8,7 @@ use Rattle.meta_never_goes_back.proofs.Spared.{passed_first, passed_end, passed_
 use Rattle.meta_never_goes_back.proofs.opposed.any_opposed.Goals as goal
 
 pub skip_surpassed-i-requires : goal.skip_surpassed-i-requires
-skip_surpassed-i-requires c = (omega arith, (omega arith, (omega arith, (omega arith, c.requires.1))))
+skip_surpassed-i-requires c = (omega arith, (omega arith, (omega arith, (omega arith, (LENGTH c rec)))))
 
 pub loop-i-init : goal.loop-i-init
 loop-i-init c = (
@@ -17,26 +17,26 @@ loop-i-init c = (
       (passed_first (down _ _ m (omega arith) (omega arith) (omega arith) c.name_before.ensures.1))).passed,
 )
 
-pub record_at-old-requires : goal.record_at-old-requires
-record_at-old-requires c = omega arith
+pub record-old-requires : goal.record-old-requires
+record-old-requires c = omega arith
 
 pub does_oppose-requires : goal.does_oppose-requires
-does_oppose-requires c = (c.requires.1, record_length _ _ c.record_at-old.ensures (omega arith))
+does_oppose-requires c = ((LENGTH c rec), record_length _ _ c.record-old.ensures (omega arith))
 
 pub returns-then-does_oppose : goal.returns-then-does_oppose
 returns-then-does_oppose c = λ m p f. never refl f
 
 pub does_cover-requires : goal.does_cover-requires
-does_cover-requires c = (c.requires.1, record_length _ _ c.record_at-old.ensures (omega arith))
+does_cover-requires c = ((LENGTH c rec), record_length _ _ c.record-old.ensures (omega arith))
 
 pub returns-then-does_cover : goal.returns-then-does_cover
-returns-then-does_cover c = λ m p f. passed_covered (c.loop-i.invariant.1 m) (omega arith) c.record_at-old.ensures c.does_cover.ensures c.if-does_cover.true p
+returns-then-does_cover c = λ m p f. passed_covered (c.loop-i.invariant.1 m) (omega arith) c.record-old.ensures c.does_cover.ensures c.if-does_cover.true p
 
 pub name_before-requires-in-loop-i : goal.name_before-requires-in-loop-i
 name_before-requires-in-loop-i c = omega arith
 
 pub skip_surpassed-i-requires-in-loop-i : goal.skip_surpassed-i-requires-in-loop-i
-skip_surpassed-i-requires-in-loop-i c = (omega arith, (omega arith, (omega arith, (omega arith, c.requires.1))))
+skip_surpassed-i-requires-in-loop-i c = (omega arith, (omega arith, (omega arith, (omega arith, (LENGTH c rec)))))
 
 pub loop-i-smaller : goal.loop-i-smaller
 loop-i-smaller c = omega arith
@@ -45,7 +45,7 @@ pub loop-i-preserved : goal.loop-i-preserved
 loop-i-preserved c = (
   omega arith,
   λ m. (c.skip_surpassed-i-in-loop-i.ensures.1 _ (omega arith) (omega arith) m
-      (passed_miss (c.loop-i.invariant.1 m) (omega arith) c.record_at-old.ensures c.does_oppose.ensures c.if-does_oppose.false
+      (passed_miss (c.loop-i.invariant.1 m) (omega arith) c.record-old.ensures c.does_oppose.ensures c.if-does_oppose.false
       (down _ _ m (omega arith) (omega arith) (omega arith) c.name_before-in-loop-i.ensures.1))).passed,
 )
 

@@ -7,7 +7,7 @@ use Rattle.meta_never_goes_back.specs.Walk.{Passed}
 use Rattle.meta_never_goes_back.proofs.opposed.any_opposed.Given as goal
 
 abbrev pub invariant-loop-i : goal.invariant-loop-i
-invariant-loop-i l = (l.i ≤ l.count) × (MetaIndexed l.cap (hist l.log l.count) l.work → Passed (decode l.rec) l.log l.count l.i)
+invariant-loop-i l = (l.i ≤ l.past.count) × (Indexed MetaIndexed l.past → Passed (decode l.rec) l.past.log.now l.past.count l.i)
 
 abbrev pub decreases-loop-i : goal.decreases-loop-i
 decreases-loop-i l = l.i

@@ -9,7 +9,7 @@ use Rattle.meta_never_goes_back.proofs.Surpassed.{highest_is, highest_not}
 use Rattle.meta_never_goes_back.proofs.opposed.is_highest.Goals as goal
 
 pub returns-then-not-is_won : goal.returns-then-not-is_won
-returns-then-not-is_won c = let a = c.args in λ m. highest_not (decode a.rec.now) (hist a.log.now a.count) (sym c.is_won.ensures ∙ c.if-not-is_won.true)
+returns-then-not-is_won c = let a = c.args in λ m. highest_not (decode a.rec.now) (hist a.past.now.log.now a.past.now.count) (sym c.is_won.ensures ∙ c.if-not-is_won.true)
 
 pub returns : goal.returns
 returns c = λ m.

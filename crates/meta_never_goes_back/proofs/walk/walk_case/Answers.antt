@@ -1,4 +1,5 @@
 -- Piece by piece: the inner loop finds the name that stands at the cursor and where the piece ends.
+use Rattle.history.proofs.Pasts.{bounds}
 use mathlib.Core.Path.{refl, sym, ◌∙◌}
 use native.Mathlib.Omega.{arith}
 use Rattle.rules.proofs.KeyLists.{above_falls}
@@ -17,29 +18,29 @@ loop-i-init c = turn_first (omega arith) (omega arith) (record {
 }) c.name_before-i.ensures.0 c.name_before-i.ensures.1
 
 pub key_case-case-requires : goal.key_case-case-requires
-key_case-case-requires c = (omega (arith, c.loop-i.invariant.known, c.requires.0), c.requires.1)
+key_case-case-requires c = (omega (arith, c.loop-i.invariant.known, (bounds c.args.past.now)), (LENGTH c rec))
 
 pub stands-standing-requires : goal.stands-standing-requires
-stands-standing-requires c = omega (arith, c.loop-i.invariant.known, c.loop-i.invariant.within, c.requires.0)
+stands-standing-requires c = omega (arith, c.loop-i.invariant.known, c.loop-i.invariant.within, (bounds c.args.past.now))
 
-pub record_at-old-requires : goal.record_at-old-requires
-record_at-old-requires c = omega (arith, c.loop-i.invariant.within, c.requires.0)
+pub record-old-requires : goal.record-old-requires
+record-old-requires c = omega (arith, c.loop-i.invariant.within, (bounds c.args.past.now))
 
 pub start_of-requires : goal.start_of-requires
-start_of-requires c = (record_length _ _ c.record_at-old.ensures (omega (arith, c.loop-i.invariant.within, c.requires.0)), omega arith)
+start_of-requires c = (record_length _ _ c.record-old.ensures (omega (arith, c.loop-i.invariant.within, (bounds c.args.past.now))), omega arith)
 
 pub end_of-requires : goal.end_of-requires
-end_of-requires c = (record_length _ _ c.record_at-old.ensures (omega (arith, c.loop-i.invariant.within, c.requires.0)), omega arith)
+end_of-requires c = (record_length _ _ c.record-old.ensures (omega (arith, c.loop-i.invariant.within, (bounds c.args.past.now))), omega arith)
 
 pub name_before-i-requires-in-loop-i : goal.name_before-i-requires-in-loop-i
-name_before-i-requires-in-loop-i c = omega (arith, c.loop-i.invariant.within, c.requires.0)
+name_before-i-requires-in-loop-i c = omega (arith, c.loop-i.invariant.within, (bounds c.args.past.now))
 
 pub loop-i-smaller : goal.loop-i-smaller
 loop-i-smaller c = omega (arith, c.name_before-i-in-loop-i.ensures.0, c.if-i-eq0.false)
 
 pub loop-i-preserved : goal.loop-i-preserved
-loop-i-preserved c = turn_more (omega (arith, c.requires.0)) (omega
-    (arith, c.requires.0)) c.loop-i.invariant c.if-i-eq0.false c.stands-standing.ensures c.record_at-old.ensures c.start_of.ensures
+loop-i-preserved c = turn_more (omega (arith, (bounds c.args.past.now))) (omega
+    (arith, (bounds c.args.past.now))) c.loop-i.invariant c.if-i-eq0.false c.stands-standing.ensures c.record-old.ensures c.start_of.ensures
     c.nearer-near.ensures c.end_of.ensures c.nearer-nearest.ensures c.name_before-i-in-loop-i.ensures
 
 pub walk-smaller : goal.walk-smaller

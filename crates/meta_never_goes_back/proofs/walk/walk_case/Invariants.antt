@@ -1,4 +1,5 @@
 -- Piece by piece: the inner loop finds the name that stands at the cursor and where the piece ends.
+use Rattle.history.specs.Pasts.{taken}
 use mathlib.Core.List.{◌∷◌}
 use Rattle.record.specs.Keys.{key_in}
 use Rattle.record.specs.Records.{decode}
@@ -11,13 +12,13 @@ use Rattle.meta_never_goes_back.proofs.Seen.{Turn}
 use Rattle.meta_never_goes_back.proofs.walk.walk_case.Given as goal
 
 abbrev pub invariant-loop-i : goal.invariant-loop-i
-invariant-loop-i l = Turn l.log l.work l.count l.cap l.end l.cur l.standing l.next l.i
+invariant-loop-i l = Turn l.past.log.now l.past.work.now l.past.count l.past.cap l.end l.cur l.standing l.next l.i
 
 abbrev pub decreases-loop-i : goal.decreases-loop-i
 decreases-loop-i l = l.i
 
 abbrev pub invariant-walk : goal.invariant-walk
-invariant-walk l = MetaIndexed l.cap (hist l.log l.count) l.work → Walked (decode l.rec) (names (hist l.log l.count)) (key_in l.cur)
+invariant-walk l = Indexed MetaIndexed l.past → Walked (decode l.rec) (names (taken l.past)) (key_in l.cur)
 
 abbrev pub decreases-walk : goal.decreases-walk
-decreases-walk l = above (key_in l.cur) (key_in l.end ∷ ends (hist l.log l.count))
+decreases-walk l = above (key_in l.cur) (key_in l.end ∷ ends (taken l.past))

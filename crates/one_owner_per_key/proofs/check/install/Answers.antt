@@ -14,14 +14,14 @@ pub returns-in_default : goal.returns-in_default
 returns-in_default c =
     let a = c.args in
     let x = decode a.rec.now in
-    let h = hist a.log.now a.count in
+    let h = hist a.past.now.log.now a.past.now.count in
     λ ix. install_unmarked x h a.tenant (sym c.node-marked.ensures ∙ c.in_default.is)
 
 pub returns-then-kind-ne8 : goal.returns-then-kind-ne8
 returns-then-kind-ne8 c =
     let a = c.args in
     let x = decode a.rec.now in
-    let h = hist a.log.now a.count in
+    let h = hist a.past.now.log.now a.past.now.count in
     λ ix. install_other x h (sym c.node-marked.ensures ∙ c.in-Some.is) a.tenant
     (ne_eqb x.kind 8 (λ e. c.if-kind-ne8.true (c.kind.ensures ∙ e)))
 
@@ -29,7 +29,7 @@ pub loop-k-init : goal.loop-k-init
 loop-k-init c =
     let a = c.args in
     let x = decode a.rec.now in
-    let h = hist a.log.now a.count in (
+    let h = hist a.past.now.log.now a.past.now.count in (
       omega arith,
       c.span_count-n.ensures.0,
       c.span_count-n.ensures.1,
@@ -41,7 +41,7 @@ pub returns-then-is_some : goal.returns-then-is_some
 returns-then-is_some c =
     let a = c.args in
     let x = decode a.rec.now in
-    let h = hist a.log.now a.count in
+    let h = hist a.past.now.log.now a.past.now.count in
     let l = c.loop-k in
     let f = install_fault a.tenant x h c.in-Some.node.0 in
     λ ix.
@@ -56,7 +56,7 @@ pub loop-k-preserved : goal.loop-k-preserved
 loop-k-preserved c =
     let a = c.args in
     let x = decode a.rec.now in
-    let h = hist a.log.now a.count in
+    let h = hist a.past.now.log.now a.past.now.count in
     let l = c.loop-k in
     let f = install_fault a.tenant x h c.in-Some.node.0 in (
       omega arith,
@@ -72,7 +72,7 @@ pub returns : goal.returns
 returns c =
     let a = c.args in
     let x = decode a.rec.now in
-    let h = hist a.log.now a.count in
+    let h = hist a.past.now.log.now a.past.now.count in
     let l = c.loop-k in
     λ ix. sym (l.invariant.3 ix ∙ first_end x l.k (install_fault a.tenant x h c.in-Some.node.0)
     (omega (arith, l.invariant.1)))

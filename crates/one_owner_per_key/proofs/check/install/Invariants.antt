@@ -1,4 +1,5 @@
 -- No span before k has a fault.
+use Rattle.history.specs.Pasts.{taken}
 use mathlib.Core.Path.{◌≡◌}
 use Rattle.record.specs.Records.{decode}
 use Rattle.history.specs.Logs.{hist}
@@ -12,9 +13,9 @@ use Rattle.one_owner_per_key.proofs.check.install.Given as goal
 abbrev pub invariant-loop-k : goal.invariant-loop-k
 invariant-loop-k l =
     (l.k ≤ l.n) × (l.n ≡ length (decode l.rec).spans) × (l.n ≤ 4)
-    × (OwnersIndexed l.cap (hist l.log l.count) l.work
-    → install_at l.tenant (decode l.rec) (hist l.log l.count)
-    ≡ first_case (install_fault l.tenant (decode l.rec) (hist l.log l.count) l.node.0) (drop l.k (decode l.rec).spans))
+    × (Indexed OwnersIndexed l.past
+    → install_at l.tenant (decode l.rec) (taken l.past)
+    ≡ first_case (install_fault l.tenant (decode l.rec) (taken l.past) l.node.0) (drop l.k (decode l.rec).spans))
 
 abbrev pub decreases-loop-k : goal.decreases-loop-k
 decreases-loop-k l = l.n - l.k

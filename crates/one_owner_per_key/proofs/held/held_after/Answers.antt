@@ -1,4 +1,5 @@
 -- The latest that says what is held, against the latest end.
+use Rattle.history.proofs.Pasts.{bounds}
 use mathlib.Core.Path.{ap, ◌∙◌}
 use native.Mathlib.Omega.{arith}
 use Prim.Native.Nat.{◌-◌}
@@ -13,13 +14,13 @@ returns-then-k-ended c =
     let a = c.args in
     record {
       within = omega arith;
-      held = λ ix e. held_ended a.node.0 a.range a.log.now a.top (c.hold_of-k.ensures.latest ix) e c.if-k-ended.true;
+      held = λ ix e. held_ended a.node.0 a.range a.past.now.log.now a.top (c.hold_of-k.ensures.latest ix) e c.if-k-ended.true;
     }
 
 pub is_holding-requires : goal.is_holding-requires
 is_holding-requires c =
-    rw c.record_at.ensures (bytes_length c.args.log.now (c.hold_of-k.result - 1)
-    (omega (arith, c.requires.0)))
+    rw c.record.ensures (bytes_length c.args.past.now.log.now (c.hold_of-k.result - 1)
+    (omega (arith, (bounds c.args.past.now))))
 
 pub returns-then-is_holding : goal.returns-then-is_holding
 returns-then-is_holding c =
@@ -27,8 +28,8 @@ returns-then-is_holding c =
     let k = c.hold_of-k in
     record {
       within = k.ensures.within;
-      held = λ ix e. held_holds a.node.0 a.range a.log.now a.top (k.ensures.latest ix) e c.if-k-ended.false
-          (c.is_holding.ensures ∙ ap (λ (x : TraceRecord). is_holding x) (record_bytes _ _ c.record_at.ensures)) c.if-is_holding.true;
+      held = λ ix e. held_holds a.node.0 a.range a.past.now.log.now a.top (k.ensures.latest ix) e c.if-k-ended.false
+          (c.is_holding.ensures ∙ ap (λ (x : TraceRecord). is_holding x) (record_bytes _ _ c.record.ensures)) c.if-is_holding.true;
     }
 
 pub returns-else-is_holding : goal.returns-else-is_holding
@@ -37,6 +38,6 @@ returns-else-is_holding c =
     let k = c.hold_of-k in
     record {
       within = omega arith;
-      held = λ ix e. held_lacks a.node.0 a.range a.log.now a.top (k.ensures.latest ix) e c.if-k-ended.false
-          (c.is_holding.ensures ∙ ap (λ (x : TraceRecord). is_holding x) (record_bytes _ _ c.record_at.ensures)) c.if-is_holding.false;
+      held = λ ix e. held_lacks a.node.0 a.range a.past.now.log.now a.top (k.ensures.latest ix) e c.if-k-ended.false
+          (c.is_holding.ensures ∙ ap (λ (x : TraceRecord). is_holding x) (record_bytes _ _ c.record.ensures)) c.if-is_holding.false;
     }

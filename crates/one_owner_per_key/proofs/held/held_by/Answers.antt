@@ -10,7 +10,7 @@ returns-then-k-eq0 c =
     let p = c.requires in
     λ ix.
     let e =
-    c.end_by-ended.ensures.1 ∙ end_is a.log.now a.count a.node.0 ix p.0.within p.1
+    c.end_by-ended.ensures.1 ∙ end_is a.past.now.log.now a.past.now.count a.node.0 ix p.0.within p.1
     (c.latest_of-last.ensures.latest ix) in
     found_none (c.held_after-k.ensures.held ix e) c.if-k-eq0.true
 
@@ -20,6 +20,6 @@ returns-else-k-eq0 c =
     let p = c.requires in
     λ ix.
     let e =
-    c.end_by-ended.ensures.1 ∙ end_is a.log.now a.count a.node.0 ix p.0.within p.1
+    c.end_by-ended.ensures.1 ∙ end_is a.past.now.log.now a.past.now.count a.node.0 ix p.0.within p.1
     (c.latest_of-last.ensures.latest ix) in
     found_at_lem (c.held_after-k.ensures.held ix e) c.if-k-eq0.false

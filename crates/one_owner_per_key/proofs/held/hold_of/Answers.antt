@@ -1,4 +1,5 @@
 -- The walk along the chain of node and range leaves out no record that says what is held.
+use Rattle.history.proofs.Pasts.{bounds}
 use Prim.Native.Nat.{◌-◌}
 use mathlib.Core.Path.{refl, ap, ◌∙◌}
 use native.Mathlib.Omega.{arith}
@@ -15,17 +16,17 @@ pub loop-i-init : goal.loop-i-init
 loop-i-init c =
     let a = c.args in (
       c.hold_top-i.ensures.0,
-      λ ix. walk_first (by_hold_lem a.cap a.node.0 a.range) a.log.now a.top a.count ix.held c.requires.1 refl
-          (two_below a.cap a.node.0 a.range c.requires.0.positive) refl c.hold_top-i.ensures.1,
+      λ ix. walk_first (by_hold_lem a.past.now.cap a.node.0 a.range) a.past.now.log.now a.top a.past.now.count ix.held c.requires refl
+          (two_below a.past.now.cap a.node.0 a.range c.args.past.now.positive) refl c.hold_top-i.ensures.1,
     )
 
-pub record_at-requires : goal.record_at-requires
-record_at-requires c = omega (arith, c.requires.0)
+pub record-requires : goal.record-requires
+record-requires c = omega (arith, (bounds c.args.past.now))
 
 pub says_hold-requires : goal.says_hold-requires
 says_hold-requires c =
-    rw c.record_at.ensures (bytes_length c.args.log.now (c.loop-i.i - 1)
-    (omega (arith, c.requires.0)))
+    rw c.record.ensures (bytes_length c.args.past.now.log.now (c.loop-i.i - 1)
+    (omega (arith, (bounds c.args.past.now))))
 
 pub returns-then-i-top : goal.returns-then-i-top
 returns-then-i-top c =
@@ -33,15 +34,15 @@ returns-then-i-top c =
     let a = c.args in
     record {
       within = leb-true l.i a.top (and_left (leb l.i a.top) c.says_hold.result c.if-i-top.true);
-      latest = λ ix. walk_hit (by_hold_lem a.cap a.node.0 a.range) a.log.now a.top c.loop-i-test.true (l.invariant.1 ix)
+      latest = λ ix. walk_hit (by_hold_lem a.past.now.cap a.node.0 a.range) a.past.now.log.now a.top c.loop-i-test.true (l.invariant.1 ix)
           (c.says_hold.ensures ∙ ap (λ (x : TraceRecord). says_hold a.node.0 a.range x)
-          (record_bytes _ _ c.record_at.ensures)) c.if-i-top.true;
+          (record_bytes _ _ c.record.ensures)) c.if-i-top.true;
     }
 
 pub hold_below-i-requires : goal.hold_below-i-requires
 hold_below-i-requires c = (
-  c.requires.0.work_holds,
-  (omega (arith, c.requires.0), c.requires.0.small),
+  c.args.past.now.work_holds,
+  (omega (arith, (bounds c.args.past.now)), c.args.past.now.small),
 )
 
 pub loop-i-smaller : goal.loop-i-smaller
@@ -53,10 +54,10 @@ loop-i-preserved c =
     let a = c.args in
     let p = c.requires in (
       omega (arith, c.hold_below-i.ensures.0),
-      λ ix. walk_next (by_hold_lem a.cap a.node.0 a.range) a.log.now a.top a.count ix.held p.0.within
+      λ ix. walk_next (by_hold_lem a.past.now.cap a.node.0 a.range) a.past.now.log.now a.top a.past.now.count ix.held p.0.within
           c.loop-i-test.true l.invariant.0 (l.invariant.1 ix)
           (c.says_hold.ensures ∙ ap (λ (x : TraceRecord). says_hold a.node.0 a.range x)
-          (record_bytes _ _ c.record_at.ensures)) c.if-i-top.false
+          (record_bytes _ _ c.record.ensures)) c.if-i-top.false
           refl c.hold_below-i.ensures.1,
     )
 
@@ -66,5 +67,5 @@ returns c =
     let a = c.args in
     record {
       within = omega arith;
-      latest = λ ix. walk_end (by_hold_lem a.cap a.node.0 a.range) a.log.now a.top (omega arith) (l.invariant.1 ix);
+      latest = λ ix. walk_end (by_hold_lem a.past.now.cap a.node.0 a.range) a.past.now.log.now a.top (omega arith) (l.invariant.1 ix);
     }

@@ -9,8 +9,8 @@ use Rattle.one_owner_per_key.proofs.held.hold_of.Given as goal
 
 abbrev pub invariant-loop-i : goal.invariant-loop-i
 invariant-loop-i l =
-    (l.i ≤ l.count) × (OwnersIndexed l.cap (hist l.log l.count) l.work → Walking (λ x _. says_hold l.node.0 l.range x) (by_hold l.cap)
-    (bucket_by_two l.cap l.node.0 l.range) l.log l.top l.i)
+    (l.i ≤ l.past.count) × (Indexed OwnersIndexed l.past → Walking (λ x _. says_hold l.node.0 l.range x) (by_hold l.past.cap)
+    (bucket_by_two l.past.cap l.node.0 l.range) l.past.log.now l.top l.i)
 
 abbrev pub decreases-loop-i : goal.decreases-loop-i
 decreases-loop-i l = l.i

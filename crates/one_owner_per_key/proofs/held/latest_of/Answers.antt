@@ -1,4 +1,5 @@
 -- The walk along the node's chain leaves out no record of the node.
+use Rattle.history.proofs.Pasts.{bounds}
 use Prim.Native.Nat.{◌-◌}
 use mathlib.Core.Path.{refl, ap, ◌∙◌}
 use native.Mathlib.Omega.{arith}
@@ -15,17 +16,17 @@ pub loop-i-init : goal.loop-i-init
 loop-i-init c =
     let a = c.args in (
       c.node_top-i.ensures.0,
-      λ ix. walk_first (entered_by_node a.cap a.node.0) a.log.now a.top a.count ix.nodes c.requires.1 refl
-          (bucket_below a.cap a.node.0 c.requires.0.positive) refl c.node_top-i.ensures.1,
+      λ ix. walk_first (entered_by_node a.past.now.cap a.node.0) a.past.now.log.now a.top a.past.now.count ix.nodes c.requires refl
+          (bucket_below a.past.now.cap a.node.0 c.args.past.now.positive) refl c.node_top-i.ensures.1,
     )
 
-pub record_at-requires : goal.record_at-requires
-record_at-requires c = omega (arith, c.requires.0)
+pub record-requires : goal.record-requires
+record-requires c = omega (arith, (bounds c.args.past.now))
 
 pub is_by-requires : goal.is_by-requires
 is_by-requires c =
-    rw c.record_at.ensures (bytes_length c.args.log.now (c.loop-i.i - 1)
-    (omega (arith, c.requires.0)))
+    rw c.record.ensures (bytes_length c.args.past.now.log.now (c.loop-i.i - 1)
+    (omega (arith, (bounds c.args.past.now))))
 
 pub returns-then-i-top : goal.returns-then-i-top
 returns-then-i-top c =
@@ -33,15 +34,15 @@ returns-then-i-top c =
     let a = c.args in
     record {
       within = leb-true l.i a.top (and_left (leb l.i a.top) c.is_by.result c.if-i-top.true);
-      latest = λ ix. walk_hit (entered_by_node a.cap a.node.0) a.log.now a.top c.loop-i-test.true (l.invariant.1 ix)
-          (c.is_by.ensures ∙ ap (λ (x : TraceRecord). is_by a.node.0 x) (record_bytes _ _ c.record_at.ensures))
+      latest = λ ix. walk_hit (entered_by_node a.past.now.cap a.node.0) a.past.now.log.now a.top c.loop-i-test.true (l.invariant.1 ix)
+          (c.is_by.ensures ∙ ap (λ (x : TraceRecord). is_by a.node.0 x) (record_bytes _ _ c.record.ensures))
           c.if-i-top.true;
     }
 
 pub node_below-i-requires : goal.node_below-i-requires
 node_below-i-requires c = (
-  c.requires.0.work_holds,
-  (omega (arith, c.requires.0), c.requires.0.small),
+  c.args.past.now.work_holds,
+  (omega (arith, (bounds c.args.past.now)), c.args.past.now.small),
 )
 
 pub loop-i-smaller : goal.loop-i-smaller
@@ -53,10 +54,10 @@ loop-i-preserved c =
     let a = c.args in
     let p = c.requires in (
       omega (arith, c.node_below-i.ensures.0),
-      λ ix. walk_next (entered_by_node a.cap a.node.0) a.log.now a.top a.count ix.nodes p.0.within
+      λ ix. walk_next (entered_by_node a.past.now.cap a.node.0) a.past.now.log.now a.top a.past.now.count ix.nodes p.0.within
           c.loop-i-test.true l.invariant.0 (l.invariant.1 ix)
           (c.is_by.ensures ∙ ap (λ (x : TraceRecord). is_by a.node.0 x)
-          (record_bytes _ _ c.record_at.ensures)) c.if-i-top.false
+          (record_bytes _ _ c.record.ensures)) c.if-i-top.false
           refl c.node_below-i.ensures.1,
     )
 
@@ -66,5 +67,5 @@ returns c =
     let a = c.args in
     record {
       within = omega arith;
-      latest = λ ix. walk_end (entered_by_node a.cap a.node.0) a.log.now a.top (omega arith) (l.invariant.1 ix);
+      latest = λ ix. walk_end (entered_by_node a.past.now.cap a.node.0) a.past.now.log.now a.top (omega arith) (l.invariant.1 ix);
     }

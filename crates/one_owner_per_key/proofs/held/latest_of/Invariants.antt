@@ -9,8 +9,8 @@ use Rattle.one_owner_per_key.proofs.held.latest_of.Given as goal
 
 abbrev pub invariant-loop-i : goal.invariant-loop-i
 invariant-loop-i l =
-    (l.i ≤ l.count) × (OwnersIndexed l.cap (hist l.log l.count) l.work
-    → Walking (λ x _. is_by l.node.0 x) (by_owner l.cap) (bucket_by l.cap l.node.0) l.log l.top l.i)
+    (l.i ≤ l.past.count) × (Indexed OwnersIndexed l.past
+    → Walking (λ x _. is_by l.node.0 x) (by_owner l.past.cap) (bucket_by l.past.cap l.node.0) l.past.log.now l.top l.i)
 
 abbrev pub decreases-loop-i : goal.decreases-loop-i
 decreases-loop-i l = l.i

@@ -12,7 +12,7 @@ use Rattle.one_owner_per_key.proofs.meeting.is_met.Goals as goal
 pub returns-then-i-eq0 : goal.returns-then-i-eq0
 returns-then-i-eq0 c =
     let a = c.args in
-    λ ix e. met_none (meets (span_of a.k (decode a.rec.now))) a.node.0 a.range a.log.now a.count
+    λ ix e. met_none (meets (span_of a.k (decode a.rec.now))) a.node.0 a.range a.past.now.log.now a.past.now.count
     (c.held_after-i.ensures.held ix e) c.if-i-eq0.true
 
 pub meets-requires : goal.meets-requires
@@ -21,8 +21,8 @@ meets-requires c =
       p.1.0,
       (
         p.1.1,
-        rw c.record_at.ensures
-            (bytes_length c.args.log.now (c.held_after-i.result - 1) (omega (arith, p.0))),
+        rw c.record.ensures
+            (bytes_length c.args.past.now.log.now (c.held_after-i.result - 1) (omega (arith, p.0))),
       ),
     )
 
@@ -30,6 +30,6 @@ pub returns : goal.returns
 returns c =
     let a = c.args in
     let s = span_of a.k (decode a.rec.now) in
-    λ ix e. met_some (meets s) a.node.0 a.range a.log.now a.count (c.held_after-i.ensures.held ix e)
+    λ ix e. met_some (meets s) a.node.0 a.range a.past.now.log.now a.past.now.count (c.held_after-i.ensures.held ix e)
     c.if-i-eq0.false
-    (c.meets.ensures ∙ ap (λ (x : TraceRecord). meets s (span_of 0 x)) (record_bytes _ _ c.record_at.ensures))
+    (c.meets.ensures ∙ ap (λ (x : TraceRecord). meets s (span_of 0 x)) (record_bytes _ _ c.record.ensures))

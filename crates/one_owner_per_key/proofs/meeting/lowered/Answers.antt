@@ -11,7 +11,7 @@ use Rattle.one_owner_per_key.proofs.meeting.lowered.Goals as goal
 pub returns-then-is_met : goal.returns-then-is_met
 returns-then-is_met c =
     let a = c.args in
-    let h = hist a.log.now a.count in
+    let h = hist a.past.now.log.now a.past.now.count in
     let x = decode a.rec.now in
     λ ix e. lowered_met a.range a.best (passes a.others x.spans a.range)
     (holds (meets (span_of a.k x)) (hold_of a.node.0 a.range h))
@@ -21,7 +21,7 @@ returns-then-is_met c =
 pub returns-else-is_met : goal.returns-else-is_met
 returns-else-is_met c =
     let a = c.args in
-    let h = hist a.log.now a.count in
+    let h = hist a.past.now.log.now a.past.now.count in
     let x = decode a.rec.now in
     λ ix e. lowered_apart a.range a.best (passes a.others x.spans a.range)
     (holds (meets (span_of a.k x)) (hold_of a.node.0 a.range h))
@@ -30,7 +30,7 @@ returns-else-is_met c =
 pub returns-else-passes : goal.returns-else-passes
 returns-else-passes c =
     let a = c.args in
-    let h = hist a.log.now a.count in
+    let h = hist a.past.now.log.now a.past.now.count in
     let x = decode a.rec.now in
     λ ix e. lowered_spared a.range a.best (passes a.others x.spans a.range)
     (holds (meets (span_of a.k x)) (hold_of a.node.0 a.range h))
@@ -39,7 +39,7 @@ returns-else-passes c =
 pub returns-else-is_below : goal.returns-else-is_below
 returns-else-is_below c =
     let a = c.args in
-    let h = hist a.log.now a.count in
+    let h = hist a.past.now.log.now a.past.now.count in
     let x = decode a.rec.now in
     λ ix e. lowered_above a.range a.best (passes a.others x.spans a.range)
     (holds (meets (span_of a.k x)) (hold_of a.node.0 a.range h))

@@ -1,4 +1,5 @@
 -- Down the list of the ranges newly held, to the node's latest end: what is held is among them.
+use Rattle.history.proofs.Pasts.{bounds}
 use mathlib.Core.Path.{ap, ◌∙◌}
 use native.Mathlib.Omega.{arith}
 use Prim.Native.Nat.{◌-◌}
@@ -16,25 +17,25 @@ loop-i-init c =
     let a = c.args in
     let p = c.requires in (
       omega (arith, c.latest_newly-i.ensures.0, c.latest_of-last.ensures.within),
-      λ ix. walked_first (passes a.others (decode a.rec.now).spans) (span_of a.k (decode a.rec.now)) a.node.0 a.log.now a.count
-          (c.end_by-ended.ensures.1 ∙ end_is a.log.now a.count a.node.0 ix p.0.within (omega arith)
+      λ ix. walked_first (passes a.others (decode a.rec.now).spans) (span_of a.k (decode a.rec.now)) a.node.0 a.past.now.log.now a.past.now.count
+          (c.end_by-ended.ensures.1 ∙ end_is a.past.now.log.now a.past.now.count a.node.0 ix p.0.within (omega arith)
           (c.latest_of-last.ensures.latest ix))
-          (c.latest_newly-i.ensures.1 ∙ newest_is a.log.now a.count a.node.0 ix p.0.within (omega arith)
+          (c.latest_newly-i.ensures.1 ∙ newest_is a.past.now.log.now a.past.now.count a.node.0 ix p.0.within (omega arith)
           (c.latest_of-last.ensures.latest ix)),
     )
 
-pub record_at-requires : goal.record_at-requires
-record_at-requires c = omega (arith, c.requires.0, c.loop-i.invariant.0)
+pub record-requires : goal.record-requires
+record-requires c = omega (arith, (bounds c.args.past.now), c.loop-i.invariant.0)
 
 pub a-range-requires : goal.a-range-requires
 a-range-requires c =
-    rw c.record_at.ensures (bytes_length c.args.log.now
+    rw c.record.ensures (bytes_length c.args.past.now.log.now
     (c.loop-i.i - 1)
-    (omega (arith, c.requires.0, c.loop-i.invariant.0)))
+    (omega (arith, (bounds c.args.past.now), c.loop-i.invariant.0)))
 
 pub newly_before-i-requires : goal.newly_before-i-requires
 newly_before-i-requires c =
-    omega (arith, c.requires.0, c.loop-i.invariant.0)
+    omega (arith, (bounds c.args.past.now), c.loop-i.invariant.0)
 
 pub loop-i-smaller : goal.loop-i-smaller
 loop-i-smaller c = omega (arith, c.newly_before-i.ensures.0)
@@ -47,17 +48,17 @@ loop-i-preserved c =
       omega (arith, c.newly_before-i.ensures.0, l.invariant.0),
       λ ix.
           walked_next (l.invariant.1 ix) (omega arith)
-          (c.a-range.ensures ∙ ap (λ (x : TraceRecord). x.a) (record_bytes _ _ c.record_at.ensures))
-          (c.lowered-best.ensures ix (c.end_by-ended.ensures.1 ∙ end_is a.log.now a.count
+          (c.a-range.ensures ∙ ap (λ (x : TraceRecord). x.a) (record_bytes _ _ c.record.ensures))
+          (c.lowered-best.ensures ix (c.end_by-ended.ensures.1 ∙ end_is a.past.now.log.now a.past.now.count
           a.node.0 ix p.0.within (omega arith) (c.latest_of-last.ensures.latest ix)))
           (c.newly_before-i.ensures.1
-          ∙ before_is a.log.now a.count a.node.0 ix p.0.within l.i (omega arith) l.invariant.0
-          (newly_by a.node.0 (record_at a.log.now (l.i - 1)) (hist a.log.now (l.i - 1)) ((l.invariant.1 ix).here (omega arith)))),
+          ∙ before_is a.past.now.log.now a.past.now.count a.node.0 ix p.0.within l.i (omega arith) l.invariant.0
+          (newly_by a.node.0 (record_at a.past.now.log.now (l.i - 1)) (hist a.past.now.log.now (l.i - 1)) ((l.invariant.1 ix).here (omega arith)))),
     )
 
 pub returns : goal.returns
 returns c =
     let a = c.args in
     λ ix.
-    walked_lowest (passes a.others (decode a.rec.now).spans) (span_of a.k (decode a.rec.now)) a.node.0 a.log.now a.count
+    walked_lowest (passes a.others (decode a.rec.now).spans) (span_of a.k (decode a.rec.now)) a.node.0 a.past.now.log.now a.past.now.count
     (c.loop-i.invariant.1 ix) c.loop-i-test.false

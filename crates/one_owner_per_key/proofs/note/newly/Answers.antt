@@ -10,7 +10,7 @@ returns-then-not-is_holding c =
     let a = c.args in
     record {
       within = omega arith;
-      newly = λ ix e. newly_not a.node.0 (decode a.rec.now) (hist a.log.now a.count) c.is_holding.ensures
+      newly = λ ix e. newly_not a.node.0 (decode a.rec.now) (hist a.past.now.log.now a.past.now.count) c.is_holding.ensures
           c.if-not-is_holding.true;
     }
 
@@ -19,7 +19,7 @@ returns-then-held_after-eq0 c =
     let a = c.args in
     record {
       within = omega arith;
-      newly = λ ix e. newly_free a.node.0 (decode a.rec.now) (hist a.log.now a.count) c.is_holding.ensures
+      newly = λ ix e. newly_free a.node.0 (decode a.rec.now) (hist a.past.now.log.now a.past.now.count) c.is_holding.ensures
           c.if-not-is_holding.false
           c.a.ensures (c.held_after.ensures.held ix e) c.if-held_after-eq0.true;
     }
@@ -29,7 +29,7 @@ returns-else-held_after-eq0 c =
     let a = c.args in
     record {
       within = omega arith;
-      newly = λ ix e. newly_held a.node.0 (decode a.rec.now) (hist a.log.now a.count) c.is_holding.ensures
+      newly = λ ix e. newly_held a.node.0 (decode a.rec.now) (hist a.past.now.log.now a.past.now.count) c.is_holding.ensures
           c.if-not-is_holding.false
           c.a.ensures (c.held_after.ensures.held ix e) c.if-held_after-eq0.false;
     }

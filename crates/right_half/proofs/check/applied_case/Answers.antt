@@ -12,13 +12,13 @@ use Rattle.right_half.proofs.check.applied_case.Goals as goal
 pub returns-then-not-has_taken : goal.returns-then-not-has_taken
 returns-then-not-has_taken c =
     let a = c.args in
-    λ ix m k. half_untaken (decode a.rec.now) (hist a.log.now a.count) a.node m k
+    λ ix m k. half_untaken (decode a.rec.now) (hist a.past.now.log.now a.past.now.count) a.node m k
     (sym c.has_taken.ensures ∙ c.if-not-has_taken.true)
 
 pub returns-then-k-eq0 : goal.returns-then-k-eq0
 returns-then-k-eq0 c =
     let a = c.args in
-    λ ix m k. half_unregistered (decode a.rec.now) (hist a.log.now a.count) a.node m k
+    λ ix m k. half_unregistered (decode a.rec.now) (hist a.past.now.log.now a.past.now.count) a.node m k
     (sym c.has_taken.ensures ∙ c.if-not-has_taken.false)
     (c.split_of-k.ensures.latest ix ∙ rw (c.a.ensures, c.b.ensures)) c.if-k-eq0.true
 
@@ -28,8 +28,8 @@ returns c =
     λ ix m k.
     let t = sym c.has_taken.ensures ∙ c.if-not-has_taken.false in
     let e =
-    c.split_of-k.ensures.latest ix ∙ ap (λ (i : ℕ). split_number i c.b.result (hist a.log.now a.count))
+    c.split_of-k.ensures.latest ix ∙ ap (λ (i : ℕ). split_number i c.b.result (hist a.past.now.log.now a.past.now.count))
     c.a.ensures
-    ∙ ap (λ (i : ℕ). split_number (decode a.rec.now).a i (hist a.log.now a.count)) c.b.ensures in
-    half_taken (decode a.rec.now) (hist a.log.now a.count) a.node m k t e c.if-k-eq0.false
+    ∙ ap (λ (i : ℕ). split_number (decode a.rec.now).a i (hist a.past.now.log.now a.past.now.count)) c.b.ensures in
+    half_taken (decode a.rec.now) (hist a.past.now.log.now a.past.now.count) a.node m k t e c.if-k-eq0.false
     (c.taken_case.ensures ix e (by_itself a.node (decode a.rec.now) m) t)

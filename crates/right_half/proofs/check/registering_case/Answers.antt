@@ -8,16 +8,16 @@ use Rattle.splits.proofs.Registered.{named_split, right_range}
 use Rattle.right_half.proofs.check.registering_case.Goals as goal
 
 pub returns-then-named-eq0 : goal.returns-then-named-eq0
-returns-then-named-eq0 c = let a = c.args in λ ix e. unregistered_clear a.log.now a.count (decode a.rec.now) e c.if-named-eq0.true
+returns-then-named-eq0 c = let a = c.args in λ ix e. unregistered_clear a.past.now.log.now a.past.now.count (decode a.rec.now) e c.if-named-eq0.true
 
 pub parent_of-parent-requires : goal.parent_of-parent-requires
-parent_of-parent-requires c = c.requires.1
+parent_of-parent-requires c = (LENGTH c rec)
 
 pub b-index-requires : goal.b-index-requires
-b-index-requires c = c.requires.1
+b-index-requires c = (LENGTH c rec)
 
 pub right_of-right-requires : goal.right_of-right-requires
-right_of-right-requires c = (c.requires.0.log_holds, c.requires.1)
+right_of-right-requires c = (c.args.past.now.log_holds, (LENGTH c rec))
 
 pub lowest_lacking-requires : goal.lowest_lacking-requires
 lowest_lacking-requires c = c.requires
@@ -27,15 +27,15 @@ returns c =
     let a = c.args in
     let x = decode a.rec.now in
     λ ix e.
-    let s = named_split a.log.now a.count x e c.if-named-eq0.false in
+    let s = named_split a.past.now.log.now a.past.now.count x e c.if-named-eq0.false in
     let r =
     c.right_of-right.ensures
-    (right_range a.log.now a.count x e c.if-named-eq0.false) in
-    found_fault a.log.now a.count x e c.if-named-eq0.false
+    (right_range a.past.now.log.now a.past.now.count x e c.if-named-eq0.false) in
+    found_fault a.past.now.log.now a.past.now.count x e c.if-named-eq0.false
     c.in_ok-node.node c.parent_of-parent.ensures
     c.b-index.ensures r
     (sym c.in_ok-node.was
-    ∙ c.lowest_lacking.ensures ix (split_with a.log.now x a.named) s
+    ∙ c.lowest_lacking.ensures ix (split_with a.past.now.log.now x a.named) s
     c.parent_of-parent.ensures c.b-index.ensures r)
     (ap Some c.new.ensures)
 
@@ -44,9 +44,9 @@ returns-in_err-node c =
     let a = c.args in
     let x = decode a.rec.now in
     λ ix e.
-    let s = named_split a.log.now a.count x e c.if-named-eq0.false in
+    let s = named_split a.past.now.log.now a.past.now.count x e c.if-named-eq0.false in
     let r =
-    c.right_of-right.ensures (right_range a.log.now a.count x e c.if-named-eq0.false) in
-    c.from_residual.ensures ∙ none_clear a.log.now a.count x e c.if-named-eq0.false
-    (sym c.in_err-node.was ∙ c.lowest_lacking.ensures ix (split_with a.log.now x a.named) s
+    c.right_of-right.ensures (right_range a.past.now.log.now a.past.now.count x e c.if-named-eq0.false) in
+    c.from_residual.ensures ∙ none_clear a.past.now.log.now a.past.now.count x e c.if-named-eq0.false
+    (sym c.in_err-node.was ∙ c.lowest_lacking.ensures ix (split_with a.past.now.log.now x a.named) s
     c.parent_of-parent.ensures c.b-index.ensures r)

@@ -1,4 +1,5 @@
 -- No registering record from i on makes it owed.
+use Rattle.history.proofs.Pasts.{bounds}
 use mathlib.Core.Path.{sym, ap, ◌∙◌}
 use native.Mathlib.Omega.{arith}
 use Prim.Native.Nat.{◌-◌}
@@ -15,41 +16,41 @@ use Rattle.right_half.proofs.lacking.is_owed.Goals.{then-right_of-right+else-owe
 use Rattle.right_half.proofs.lacking.is_owed.Goals as goal
 
 pub registering_by-i-requires : goal.registering_by-i-requires
-registering_by-i-requires c = (c.requires.work_holds, (c.requires.within, c.requires.small))
+registering_by-i-requires c = (c.args.past.now.work_holds, (c.args.past.now.within, c.args.past.now.small))
 
 pub loop-i-init : goal.loop-i-init
 loop-i-init c =
     let a = c.args in (
       c.registering_by-i.ensures.0,
-      λ ix e. owed_first a.log.now a.count a.node.0 a.right
-          (c.registering_by-i.ensures.1 ∙ registering_read a.log.now ix.1.registered c.requires.within
-          c.requires.small a.count (omega arith)),
+      λ ix e. owed_first a.past.now.log.now a.past.now.count a.node.0 a.right
+          (c.registering_by-i.ensures.1 ∙ registering_read a.past.now.log.now ix.1.registered c.args.past.now.within
+          c.args.past.now.small a.past.now.count (omega arith)),
     )
 
 pub overflow_sub-at : goal.overflow_sub-at
 overflow_sub-at c = omega arith
 
-pub record_at-requires : goal.record_at-requires
-record_at-requires c = omega (arith, c.requires)
+pub record-requires : goal.record-requires
+record-requires c = omega (arith, (bounds c.args.past.now))
 
 pub named_by-requires : goal.named_by-requires
 named_by-requires c = (
-  c.requires.work_holds,
-  (omega (arith, c.requires, c.loop-i.invariant.0), c.requires.small),
+  c.args.past.now.work_holds,
+  (omega (arith, (bounds c.args.past.now), c.loop-i.invariant.0), c.args.past.now.small),
 )
 
 pub right_of-requires : goal.right_of-requires
 right_of-requires c = (
-  c.requires.log_holds,
+  c.args.past.now.log_holds,
   record_length
-      c.args.log.now (c.loop-i.i - 1)
-      c.record_at.ensures
-      (omega (arith, c.requires, c.loop-i.invariant.0)),
+      c.args.past.now.log.now (c.loop-i.i - 1)
+      c.record.ensures
+      (omega (arith, (bounds c.args.past.now), c.loop-i.invariant.0)),
 )
 
 pub owes_by-requires : goal.owes_by-requires
 owes_by-requires c = (
-  c.requires,
+  (bounds c.args.past.now),
   omega
       (arith, c.loop-i.invariant.0),
 )
@@ -57,26 +58,26 @@ owes_by-requires c = (
 pub returns-then-owes_by : goal.returns-then-owes_by
 returns-then-owes_by c =
     let a = c.args in
-    let p = c.requires in
+    let p = (bounds c.args.past.now) in
     let l = c.loop-i in
-    let y = record_bytes a.log.now (l.i - 1) c.record_at.ensures in
+    let y = record_bytes a.past.now.log.now (l.i - 1) c.record.ensures in
     λ ix e.
     let w = l.invariant.1 ix e in
     let m =
     c.named_by.ensures
-    ∙ named_read a.log.now ix.1.registered p.within p.small (l.i - 1) (omega (arith, l.invariant.0)) in
-    owed_here a.log.now a.count a.node.0 a.right c.loop-i-test.true l.invariant.0 w m
-    (c.right_of.ensures (λ k. range_of a.log.now (l.i - 1) a.count (omega (arith, l.invariant.0)) m
-    (named_range a.log.now (record_at a.log.now (l.i - 1)) (l.i - 1)
+    ∙ named_read a.past.now.log.now ix.1.registered p.within p.small (l.i - 1) (omega (arith, l.invariant.0)) in
+    owed_here a.past.now.log.now a.past.now.count a.node.0 a.right c.loop-i-test.true l.invariant.0 w m
+    (c.right_of.ensures (λ k. range_of a.past.now.log.now (l.i - 1) a.past.now.count (omega (arith, l.invariant.0)) m
+    (named_range a.past.now.log.now (record_at a.past.now.log.now (l.i - 1)) (l.i - 1)
     (w.here c.loop-i-test.true) (ap (λ (z : TraceRecord). is_kind 1 z) (sym y) ∙ k)))
-    ∙ ap (λ (z : TraceRecord). right_by a.log.now z c.named_by.result) y)
+    ∙ ap (λ (z : TraceRecord). right_by a.past.now.log.now z c.named_by.result) y)
     c.if-right_of-right.true (c.cancel_of-cancel.ensures ix e)
     (c.owes_by.ensures ix) c.if-owes_by.true
 
 pub registering_by-i-requires-in-loop-i : goal.registering_by-i-requires-in-loop-i
 registering_by-i-requires-in-loop-i c = (
-  c.requires.work_holds,
-  (omega (arith, c.requires, c.loop-i.invariant.0), c.requires.small),
+  c.args.past.now.work_holds,
+  (omega (arith, (bounds c.args.past.now), c.loop-i.invariant.0), c.args.past.now.small),
 )
 
 pub loop-i-smaller : goal.loop-i-smaller
@@ -85,30 +86,30 @@ loop-i-smaller c = omega (arith, c.registering_by-i-in-loop-i.ensures.0)
 pub loop-i-preserved : goal.loop-i-preserved
 loop-i-preserved c =
     let a = c.args in
-    let p = c.requires in
+    let p = (bounds c.args.past.now) in
     let l = c.loop-i in
-    let y = record_bytes a.log.now (l.i - 1) c.record_at.ensures in (
+    let y = record_bytes a.past.now.log.now (l.i - 1) c.record.ensures in (
       omega (arith, c.registering_by-i-in-loop-i.ensures.0, l.invariant.0),
       λ ix e.
           let w = l.invariant.1 ix e in
           let m =
           c.named_by.ensures
-          ∙ named_read a.log.now ix.1.registered p.within p.small (l.i - 1) (omega (arith, l.invariant.0)) in
-          owed_next a.log.now a.count a.node.0 a.right c.loop-i-test.true l.invariant.0 w m
-          (c.right_of.ensures (λ k. range_of a.log.now (l.i - 1) a.count (omega (arith, l.invariant.0)) m
-          (named_range a.log.now (record_at a.log.now (l.i - 1)) (l.i - 1) (w.here c.loop-i-test.true)
+          ∙ named_read a.past.now.log.now ix.1.registered p.within p.small (l.i - 1) (omega (arith, l.invariant.0)) in
+          owed_next a.past.now.log.now a.past.now.count a.node.0 a.right c.loop-i-test.true l.invariant.0 w m
+          (c.right_of.ensures (λ k. range_of a.past.now.log.now (l.i - 1) a.past.now.count (omega (arith, l.invariant.0)) m
+          (named_range a.past.now.log.now (record_at a.past.now.log.now (l.i - 1)) (l.i - 1) (w.here c.loop-i-test.true)
           (ap (λ (z : TraceRecord). is_kind 1 z) (sym y) ∙ k)))
-          ∙ ap (λ (z : TraceRecord). right_by a.log.now z c.named_by.result) y)
+          ∙ ap (λ (z : TraceRecord). right_by a.past.now.log.now z c.named_by.result) y)
           (λ q. elim c.if-right_of-right.branch [
-            | then-right_of-right+else-owes_by w ↦ ap (owes_split a.log.now a.count a.node.0 (l.i - 1)) (sym (c.cancel_of-cancel.ensures ix e))
+            | then-right_of-right+else-owes_by w ↦ ap (owes_split a.past.now.log.now a.past.now.count a.node.0 (l.i - 1)) (sym (c.cancel_of-cancel.ensures ix e))
                 ∙ sym (w.owes_by.ensures ix) ∙ w.if-owes_by.false
             | else-right_of-right w ↦ absurd (w.if-right_of-right.false q)
           ])
-          (c.registering_by-i-in-loop-i.ensures.1 ∙ registering_read a.log.now ix.1.registered p.within p.small (l.i - 1) (omega (arith, l.invariant.0))),
+          (c.registering_by-i-in-loop-i.ensures.1 ∙ registering_read a.past.now.log.now ix.1.registered p.within p.small (l.i - 1) (omega (arith, l.invariant.0))),
     )
 
 pub returns : goal.returns
 returns c =
     let a =
-    c.args in λ ix e. owed_end a.log.now a.count a.node.0 a.right (omega arith)
+    c.args in λ ix e. owed_end a.past.now.log.now a.past.now.count a.node.0 a.right (omega arith)
     (c.loop-i.invariant.1 ix e)

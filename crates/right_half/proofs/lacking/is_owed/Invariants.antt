@@ -1,4 +1,5 @@
 -- No registering record from i on makes it owed.
+use Rattle.history.specs.Pasts.{taken}
 use mathlib.Core.Path.{◌≡◌}
 use Prim.Native.Nat.{◌≤◌}
 use Rattle.history.specs.Logs.{hist}
@@ -9,8 +10,8 @@ use Rattle.right_half.proofs.lacking.is_owed.Given as goal
 
 abbrev pub invariant-loop-i : goal.invariant-loop-i
 invariant-loop-i l =
-    (l.i ≤ l.count) × (Known l.cap (hist l.log l.count) l.work → l.refused ≡ refused_number l.node.0 (hist l.log l.count)
-    → Unowed l.log l.count l.node.0 l.right l.i)
+    (l.i ≤ l.past.count) × (Indexed Known l.past → l.refused ≡ refused_number l.node.0 (taken l.past)
+    → Unowed l.past.log.now l.past.count l.node.0 l.right l.i)
 
 abbrev pub decreases-loop-i : goal.decreases-loop-i
 decreases-loop-i l = l.i

@@ -1,4 +1,5 @@
 -- One test after the other; this registering makes it owed where the server is a voter.
+use Rattle.history.proofs.Pasts.{bounds}
 use mathlib.Core.Path.{sym, ap, ◌∙◌}
 use native.Mathlib.Omega.{arith}
 use mathlib.Core.Bool.{Bool, not, ◌||◌}
@@ -14,50 +15,50 @@ use Rattle.right_half.proofs.Lacks.{lacks_unrestated, lacks_unreached, lacks_hel
 use Rattle.right_half.proofs.lacking.lacks_at.Goals as goal
 
 pub latest_of-last-requires : goal.latest_of-last-requires
-latest_of-last-requires c = (c.requires.0, omega arith)
+latest_of-last-requires c = ((bounds c.args.past.now), omega arith)
 
 pub restated_by-restated-requires : goal.restated_by-restated-requires
 restated_by-restated-requires c = (
-  c.requires.0.work_holds,
-  (omega (arith, c.requires.0, c.latest_of-last.ensures.within), c.requires.0.small),
+  c.args.past.now.work_holds,
+  (omega (arith, (bounds c.args.past.now), c.latest_of-last.ensures.within), c.args.past.now.small),
 )
 
 pub returns-then-restated-eq0 : goal.returns-then-restated-eq0
 returns-then-restated-eq0 c =
     let a = c.args in
-    let p = c.requires.0 in
+    let p = (bounds c.args.past.now) in
     let x = decode a.rec.now in
-    let h = hist a.log.now a.count in
+    let h = hist a.past.now.log.now a.past.now.count in
     λ ix s r ep ei er.
     let q = c.latest_of-last.ensures.latest ix.0 in
-    let k = mark_is a.log.now a.node.0 p.within (omega arith) q ix.1.restated c.restated_by-restated.ensures.1 in
+    let k = mark_is a.past.now.log.now a.node.0 p.within (omega arith) q ix.1.restated c.restated_by-restated.ensures.1 in
     lacks_unrestated x h a.node.0 s r (sym k ∙ ap not (eq-eqb _ 0 c.if-restated-eq0.true))
 
 pub refused_by-refused-requires : goal.refused_by-refused-requires
 refused_by-refused-requires c = (
-  c.requires.0.work_holds,
-  (omega (arith, c.requires.0, c.latest_of-last.ensures.within), c.requires.0.small),
+  c.args.past.now.work_holds,
+  (omega (arith, (bounds c.args.past.now), c.latest_of-last.ensures.within), c.args.past.now.small),
 )
 
 pub is_reached-requires : goal.is_reached-requires
-is_reached-requires c = (c.requires.0, omega arith)
+is_reached-requires c = ((bounds c.args.past.now), omega arith)
 
 pub returns-then-not-is_reached : goal.returns-then-not-is_reached
 returns-then-not-is_reached c =
     let a = c.args in
-    let p = c.requires.0 in
+    let p = (bounds c.args.past.now) in
     let x = decode a.rec.now in
-    let h = hist a.log.now a.count in
+    let h = hist a.past.now.log.now a.past.now.count in
     λ ix s r ep ei er.
     let q = c.latest_of-last.ensures.latest ix.0 in
-    let k = mark_is a.log.now a.node.0 p.within (omega arith) q ix.1.restated c.restated_by-restated.ensures.1 in
-    let f = refused_is a.log.now a.node.0 p.within (omega arith) q ix.1.refused c.refused_by-refused.ensures.1 in
-    let g = reaches_as a.log.now a.count a.node.0 s ep ei (c.is_reached.ensures ix f) in
+    let k = mark_is a.past.now.log.now a.node.0 p.within (omega arith) q ix.1.restated c.restated_by-restated.ensures.1 in
+    let f = refused_is a.past.now.log.now a.node.0 p.within (omega arith) q ix.1.refused c.refused_by-refused.ensures.1 in
+    let g = reaches_as a.past.now.log.now a.past.now.count a.node.0 s ep ei (c.is_reached.ensures ix f) in
     lacks_unreached x h a.node.0 s r (sym k ∙ ap not (ne_eqb _ 0 c.if-restated-eq0.false)) (g ∙ c.if-not-is_reached.true)
 
 pub was_held-requires : goal.was_held-requires
 was_held-requires c = (
-  c.requires.0,
+  (bounds c.args.past.now),
   omega
       (arith, c.restated_by-restated.ensures.0, c.latest_of-last.ensures.within),
 )
@@ -65,78 +66,78 @@ was_held-requires c = (
 pub returns-then-was_held : goal.returns-then-was_held
 returns-then-was_held c =
     let a = c.args in
-    let p = c.requires.0 in
+    let p = (bounds c.args.past.now) in
     let x = decode a.rec.now in
-    let h = hist a.log.now a.count in
+    let h = hist a.past.now.log.now a.past.now.count in
     λ ix s r ep ei er.
     let q = c.latest_of-last.ensures.latest ix.0 in
     let k =
-    mark_is a.log.now a.node.0 p.within (omega arith) q ix.1.restated
+    mark_is a.past.now.log.now a.node.0 p.within (omega arith) q ix.1.restated
     c.restated_by-restated.ensures.1 in
-    let f = refused_is a.log.now a.node.0 p.within (omega arith) q ix.1.refused c.refused_by-refused.ensures.1 in
-    let g = reaches_as a.log.now a.count a.node.0 s ep ei (c.is_reached.ensures ix f) in
+    let f = refused_is a.past.now.log.now a.node.0 p.within (omega arith) q ix.1.refused c.refused_by-refused.ensures.1 in
+    let g = reaches_as a.past.now.log.now a.past.now.count a.node.0 s ep ei (c.is_reached.ensures ix f) in
     let i = (sym k ∙ ap not (ne_eqb _ 0 c.if-restated-eq0.false)) in
     lacks_held x h a.node.0 s r i (g ∙ c.if-not-is_reached.false)
-    (sym (c.was_held.ensures ix (restated_is a.log.now a.node.0 p.within (omega arith) q ix.1.restated
+    (sym (c.was_held.ensures ix (restated_is a.past.now.log.now a.node.0 p.within (omega arith) q ix.1.restated
     c.restated_by-restated.ensures.1) f i ∙ ap (λ (n : ℕ). restated_with a.node.0 n h) er) ∙ c.if-was_held.true)
 
 pub server_by-requires : goal.server_by-requires
 server_by-requires c = (
-  c.requires.0.work_holds,
-  (omega (arith, c.latest_of-last.ensures.within, c.requires.0), c.requires.0.small),
+  c.args.past.now.work_holds,
+  (omega (arith, c.latest_of-last.ensures.within, (bounds c.args.past.now)), c.args.past.now.small),
 )
 
 pub is_voter-requires : goal.is_voter-requires
-is_voter-requires c = c.requires.1
+is_voter-requires c = (LENGTH c rec)
 
 pub returns-then-is_voter : goal.returns-then-is_voter
 returns-then-is_voter c =
     let a = c.args in
-    let p = c.requires.0 in
+    let p = (bounds c.args.past.now) in
     let x = decode a.rec.now in
-    let h = hist a.log.now a.count in
+    let h = hist a.past.now.log.now a.past.now.count in
     λ ix s r ep ei er.
     let q = c.latest_of-last.ensures.latest ix.0 in
     let k =
-    mark_is a.log.now a.node.0 p.within (omega arith) q ix.1.restated
+    mark_is a.past.now.log.now a.node.0 p.within (omega arith) q ix.1.restated
     c.restated_by-restated.ensures.1 in
     let f =
-    refused_is a.log.now a.node.0 p.within (omega arith) q ix.1.refused
+    refused_is a.past.now.log.now a.node.0 p.within (omega arith) q ix.1.refused
     c.refused_by-refused.ensures.1 in
-    let g = reaches_as a.log.now a.count a.node.0 s ep ei (c.is_reached.ensures ix f) in
+    let g = reaches_as a.past.now.log.now a.past.now.count a.node.0 s ep ei (c.is_reached.ensures ix f) in
     let i = (sym k ∙ ap not (ne_eqb _ 0 c.if-restated-eq0.false)) in
     lacks_owing x h a.node.0 s r i (g ∙ c.if-not-is_reached.false)
     (sym (c.was_held.ensures ix
-    (restated_is a.log.now a.node.0 p.within (omega arith) q ix.1.restated
+    (restated_is a.past.now.log.now a.node.0 p.within (omega arith) q ix.1.restated
     c.restated_by-restated.ensures.1) f i
     ∙ ap (λ (n : ℕ). restated_with a.node.0 n h) er) ∙ c.if-was_held.false)
-    (sym (or_left _ _ (voter_of a.log.now x a.count a.node.0 s r
-    (server_is a.log.now a.node.0 ix.1.servers p.within (omega arith) q c.server_by.ensures)
+    (sym (or_left _ _ (voter_of a.past.now.log.now x a.past.now.count a.node.0 s r
+    (server_is a.past.now.log.now a.node.0 ix.1.servers p.within (omega arith) q c.server_by.ensures)
     c.is_voter.ensures ∙ c.if-is_voter.true)))
 
 pub returns : goal.returns
 returns c =
     let a = c.args in
-    let p = c.requires.0 in
+    let p = (bounds c.args.past.now) in
     let x = decode a.rec.now in
-    let h = hist a.log.now a.count in
+    let h = hist a.past.now.log.now a.past.now.count in
     λ ix s r ep ei er.
     let q = c.latest_of-last.ensures.latest ix.0 in
     let k =
-    mark_is a.log.now a.node.0 p.within (omega arith) q ix.1.restated
+    mark_is a.past.now.log.now a.node.0 p.within (omega arith) q ix.1.restated
     c.restated_by-restated.ensures.1 in
     let f =
-    refused_is a.log.now a.node.0 p.within (omega arith) q ix.1.refused
+    refused_is a.past.now.log.now a.node.0 p.within (omega arith) q ix.1.refused
     c.refused_by-refused.ensures.1 in
-    let g = reaches_as a.log.now a.count a.node.0 s ep ei (c.is_reached.ensures ix f) in
+    let g = reaches_as a.past.now.log.now a.past.now.count a.node.0 s ep ei (c.is_reached.ensures ix f) in
     let i = (sym k ∙ ap not (ne_eqb _ 0 c.if-restated-eq0.false)) in
     lacks_owing x h a.node.0 s r i (g ∙ c.if-not-is_reached.false)
     (sym (c.was_held.ensures ix
-    (restated_is a.log.now a.node.0 p.within (omega arith) q ix.1.restated
+    (restated_is a.past.now.log.now a.node.0 p.within (omega arith) q ix.1.restated
     c.restated_by-restated.ensures.1) f i
     ∙ ap (λ (n : ℕ). restated_with a.node.0 n h) er) ∙ c.if-was_held.false)
     (c.is_owed.ensures ix f ∙ ap (λ (n : ℕ). is_some (owes a.node.0 n h)) er
     ∙ ap (λ (b : Bool). b || is_some (owes a.node.0 s.right h))
-    (sym (voter_of a.log.now x a.count a.node.0 s r
-    (server_is a.log.now a.node.0 ix.1.servers p.within (omega arith) q c.server_by.ensures)
+    (sym (voter_of a.past.now.log.now x a.past.now.count a.node.0 s r
+    (server_is a.past.now.log.now a.node.0 ix.1.servers p.within (omega arith) q c.server_by.ensures)
     c.is_voter.ensures ∙ c.if-is_voter.false)))

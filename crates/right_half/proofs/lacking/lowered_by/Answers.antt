@@ -1,4 +1,5 @@
 -- A node that is not below cannot lower it.
+use Rattle.history.proofs.Pasts.{bounds}
 use mathlib.Core.Path.{sym, ap, ◌∙◌}
 use Rattle.record.specs.Named.{Node}
 use Rattle.record.specs.Records.{decode}
@@ -11,12 +12,12 @@ use Rattle.right_half.proofs.lacking.lowered_by.Goals as goal
 pub returns-in_default : goal.returns-in_default
 returns-in_default c =
     let a = c.args in
-    λ ix s r ep ei er. ap (λ (z : Node). lowered_by (lacks s (decode a.rec.now) (hist a.log.now a.count)) z a.best)
+    λ ix s r ep ei er. ap (λ (z : Node). lowered_by (lacks s (decode a.rec.now) (hist a.past.now.log.now a.past.now.count)) z a.best)
     (sym (sym c.node-marked.ensures ∙ c.in_default.is))
 
 pub lacks_at-requires : goal.lacks_at-requires
 lacks_at-requires c =
-    (c.requires.0, c.requires.1.0)
+    ((bounds c.args.past.now), (LENGTH c rec))
 
 pub returns-then-lacks_at : goal.returns-then-lacks_at
 returns-then-lacks_at c =
@@ -26,7 +27,7 @@ returns-then-lacks_at c =
     sym c.node-marked.ensures
     ∙ c.in-Some.is in
     λ ix s r ep ei er.
-    let P = lacks s (decode a.rec.now) (hist a.log.now a.count) in
+    let P = lacks s (decode a.rec.now) (hist a.past.now.log.now a.past.now.count) in
     lowered_new m.0 a.best (sym c.is_below.ensures ∙ c.if-is_below.true)
     (sym (c.lacks_at.ensures ix s r ep ei er) ∙ c.if-lacks_at.true) ∙ ap (λ (z : Node). lowered_by P z a.best) (sym e)
 
@@ -38,7 +39,7 @@ returns-else-lacks_at c =
     sym c.node-marked.ensures
     ∙ c.in-Some.is in
     λ ix s r ep ei er.
-    let P = lacks s (decode a.rec.now) (hist a.log.now a.count) in
+    let P = lacks s (decode a.rec.now) (hist a.past.now.log.now a.past.now.count) in
     lowered_not m.0 a.best (sym (c.lacks_at.ensures ix s r ep ei er) ∙ c.if-lacks_at.false)
     ∙ ap (λ (z : Node). lowered_by P z a.best) (sym e)
 
@@ -48,6 +49,6 @@ returns-else-is_below c =
     let m = c.in-Some.node in
     let e = sym c.node-marked.ensures ∙ c.in-Some.is in
     λ ix s r ep ei er.
-    let P = lacks s (decode a.rec.now) (hist a.log.now a.count) in
+    let P = lacks s (decode a.rec.now) (hist a.past.now.log.now a.past.now.count) in
     lowered_above (P m.0) m.0 a.best (sym c.is_below.ensures ∙ c.if-is_below.false)
     ∙ ap (λ (z : Node). lowered_by P z a.best) (sym e)

@@ -1,4 +1,5 @@
 -- Every node that lacks it recorded an index of the parent.
+use Rattle.history.proofs.Pasts.{bounds}
 use mathlib.Core.Path.{refl, ap, ◌∙◌}
 use native.Mathlib.Omega.{arith}
 use Prim.Native.Nat.{◌-◌}
@@ -16,34 +17,34 @@ use Rattle.right_half.proofs.lacking.lowest_lacking.Goals as goal
 pub loop-i-init : goal.loop-i-init
 loop-i-init c =
     let a = c.args in
-    let p = c.requires.0 in (
+    let p = (bounds c.args.past.now) in (
       c.recorded_top-i.ensures.0,
-      λ ix s r ep ei er. lower_first (by_recording a.cap) (recorded_bucket a.cap a.parent) a.log.now a.count
-          (lacks s (decode a.rec.now) (hist a.log.now a.count)) ix.1.recordings p.within refl
-          (bucket_below a.cap a.parent p.positive) refl c.recorded_top-i.ensures.1,
+      λ ix s r ep ei er. lower_first (by_recording a.past.now.cap) (recorded_bucket a.past.now.cap a.parent) a.past.now.log.now a.past.now.count
+          (lacks s (decode a.rec.now) (hist a.past.now.log.now a.past.now.count)) ix.1.recordings p.within refl
+          (bucket_below a.past.now.cap a.parent p.positive) refl c.recorded_top-i.ensures.1,
     )
 
 pub overflow_sub-at : goal.overflow_sub-at
 overflow_sub-at c = omega arith
 
-pub record_at-requires : goal.record_at-requires
-record_at-requires c = omega (arith, c.requires.0)
+pub record-requires : goal.record-requires
+record-requires c = omega (arith, (bounds c.args.past.now))
 
 pub lowered_by-best-requires : goal.lowered_by-best-requires
 lowered_by-best-requires c = (
-  c.requires.0,
+  (bounds c.args.past.now),
   (
-    c.requires.1,
+    (LENGTH c rec),
     record_length
-        c.args.log.now (c.loop-i.i - 1) c.record_at.ensures
-        (omega (arith, c.requires.0, c.loop-i.invariant.0)),
+        c.args.past.now.log.now (c.loop-i.i - 1) c.record.ensures
+        (omega (arith, (bounds c.args.past.now), c.loop-i.invariant.0)),
   ),
 )
 
 pub recorded_below-i-requires : goal.recorded_below-i-requires
 recorded_below-i-requires c = (
-  c.requires.0.work_holds,
-  (omega (arith, c.requires.0, c.loop-i.invariant.0), c.requires.0.small),
+  c.args.past.now.work_holds,
+  (omega (arith, (bounds c.args.past.now), c.loop-i.invariant.0), c.args.past.now.small),
 )
 
 pub loop-i-smaller : goal.loop-i-smaller
@@ -52,25 +53,25 @@ loop-i-smaller c = omega (arith, c.recorded_below-i.ensures.0)
 pub loop-i-preserved : goal.loop-i-preserved
 loop-i-preserved c =
     let a = c.args in
-    let p = c.requires.0 in
+    let p = (bounds c.args.past.now) in
     let l = c.loop-i in (
       omega (arith, c.recorded_below-i.ensures.0, l.invariant.0),
       λ ix s r ep ei er.
-          lower_next (by_recording a.cap) (recorded_bucket a.cap a.parent) a.log.now a.count
-          (lacks s (decode a.rec.now) (hist a.log.now a.count)) ix.1.recordings p.within c.loop-i-test.true
+          lower_next (by_recording a.past.now.cap) (recorded_bucket a.past.now.cap a.parent) a.past.now.log.now a.past.now.count
+          (lacks s (decode a.rec.now) (hist a.past.now.log.now a.past.now.count)) ix.1.recordings p.within c.loop-i-test.true
           l.invariant.0 (l.invariant.1 ix s r ep ei er)
           (c.lowered_by-best.ensures ix s r ep ei er
-          ∙ ap (λ (z : TraceRecord). lowered_by (lacks s (decode a.rec.now) (hist a.log.now a.count)) z.node l.best)
-          (record_bytes a.log.now (l.i - 1) c.record_at.ensures))
+          ∙ ap (λ (z : TraceRecord). lowered_by (lacks s (decode a.rec.now) (hist a.past.now.log.now a.past.now.count)) z.node l.best)
+          (record_bytes a.past.now.log.now (l.i - 1) c.record.ensures))
           refl c.recorded_below-i.ensures.1,
     )
 
 pub returns : goal.returns
 returns c =
     let a = c.args in
-    let p = c.requires.0 in
+    let p = (bounds c.args.past.now) in
     λ ix s r ep ei er.
-    lower_end (by_recording a.cap) (recorded_bucket a.cap a.parent) a.log.now a.count
-    (lacks s (decode a.rec.now) (hist a.log.now a.count)) ix.1.recordings p.within (omega arith) (c.loop-i.invariant.1 ix s r ep ei er)
-    (λ m e. rw ep (lacking_met a.cap a.log.now a.count s (decode a.rec.now) m e))
-    (lacking_right s (decode a.rec.now) (hist a.log.now a.count))
+    lower_end (by_recording a.past.now.cap) (recorded_bucket a.past.now.cap a.parent) a.past.now.log.now a.past.now.count
+    (lacks s (decode a.rec.now) (hist a.past.now.log.now a.past.now.count)) ix.1.recordings p.within (omega arith) (c.loop-i.invariant.1 ix s r ep ei er)
+    (λ m e. rw ep (lacking_met a.past.now.cap a.past.now.log.now a.past.now.count s (decode a.rec.now) m e))
+    (lacking_right s (decode a.rec.now) (hist a.past.now.log.now a.past.now.count))

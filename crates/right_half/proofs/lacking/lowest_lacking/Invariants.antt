@@ -1,4 +1,5 @@
 -- Every node that lacks it recorded an index of the parent.
+use Rattle.history.specs.Pasts.{taken}
 use mathlib.Core.Path.{◌≡◌}
 use Rattle.std.specs.Prelude.{Some}
 use Prim.Native.Nat.{◌≤◌}
@@ -11,10 +12,10 @@ use Rattle.right_half.proofs.lacking.lowest_lacking.Given as goal
 
 abbrev pub invariant-loop-i : goal.invariant-loop-i
 invariant-loop-i l =
-    (l.i ≤ l.count) × (Known l.cap (hist l.log l.count) l.work → (s : Registered) → registers (decode l.rec) (hist l.log l.count) ≡ Some s → l.parent
+    (l.i ≤ l.past.count) × (Indexed Known l.past → (s : Registered) → registers (decode l.rec) (taken l.past) ≡ Some s → l.parent
     ≡ s.parent → l.index
-    ≡ s.index → l.right ≡ s.right → Lowering (by_recording l.cap) (recorded_bucket l.cap l.parent) l.log l.count
-    (lacks s (decode l.rec) (hist l.log l.count)) l.i l.best)
+    ≡ s.index → l.right ≡ s.right → Lowering (by_recording l.past.cap) (recorded_bucket l.past.cap l.parent) l.past.log.now l.past.count
+    (lacks s (decode l.rec) (taken l.past)) l.i l.best)
 
 abbrev pub decreases-loop-i : goal.decreases-loop-i
 decreases-loop-i l = l.i

@@ -1,4 +1,5 @@
 -- What it held then, unless a refusal came since.
+use Rattle.history.proofs.Pasts.{bounds}
 use mathlib.Core.Path.{sym, ◌∙◌}
 use native.Mathlib.Omega.{arith}
 use Prim.Native.Nat.{◌-◌}
@@ -8,13 +9,13 @@ use Rattle.right_half.proofs.Lacks.{with_dropped, with_held}
 use Rattle.right_half.proofs.lacking.was_held.Goals as goal
 
 pub returns-then-restated-refused : goal.returns-then-restated-refused
-returns-then-restated-refused c = let a = c.args in λ ix e f g. with_dropped a.node.0 a.range a.log.now a.count e f g c.if-restated-refused.true
+returns-then-restated-refused c = let a = c.args in λ ix e f g. with_dropped a.node.0 a.range a.past.now.log.now a.past.now.count e f g c.if-restated-refused.true
 
 pub held_by-requires : goal.held_by-requires
-held_by-requires c = (c.requires.0, omega (arith, c.requires.1))
+held_by-requires c = ((bounds c.args.past.now), omega (arith, c.requires))
 
 pub returns : goal.returns
 returns c =
     let a = c.args in
-    λ ix e f g. with_held a.node.0 a.range a.log.now a.count e f g c.if-restated-refused.false
-    (found_held a.node.0 a.range (hist a.log.now (a.restated - 1)) (c.held_by.ensures ix.0) ∙ sym c.is_some.ensures)
+    λ ix e f g. with_held a.node.0 a.range a.past.now.log.now a.past.now.count e f g c.if-restated-refused.false
+    (found_held a.node.0 a.range (hist a.past.now.log.now (a.restated - 1)) (c.held_by.ensures ix.0) ∙ sym c.is_some.ensures)

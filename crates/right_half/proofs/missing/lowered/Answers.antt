@@ -19,5 +19,5 @@ returns-else-is_lacking c =
 pub returns-else-is_below : goal.returns-else-is_below
 returns-else-is_below c =
     let a =
-    c.args in λ ix d e. lowered_above (lacks_split a.log.now a.count a.node.0 a.t a.right) a.right
+    c.args in λ ix d e. lowered_above (lacks_split a.past.now.log.now a.past.now.count a.node.0 a.t a.right) a.right
     a.best (sym c.is_below.ensures ∙ c.if-is_below.false)

@@ -7,7 +7,7 @@ use Rattle.right_half.proofs.missing.lowest_missing.Given as goal
 
 abbrev pub invariant-loop-i : goal.invariant-loop-i
 invariant-loop-i l =
-    (l.i ≤ l.count) × (Known l.cap (hist l.log l.count) l.work → Searching l.log l.count l.node.0 l.i l.best)
+    (l.i ≤ l.past.count) × (Indexed Known l.past → Searching l.past.log.now l.past.count l.node.0 l.i l.best)
 
 abbrev pub decreases-loop-i : goal.decreases-loop-i
 decreases-loop-i l = l.i

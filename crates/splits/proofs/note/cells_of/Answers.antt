@@ -1,4 +1,5 @@
 -- The node's state is read at its latest record, and the record changes it by its kind.
+use Rattle.history.proofs.Pasts.{bounds}
 use mathlib.Core.Path.{refl, sym, ◌∙◌}
 use native.Mathlib.Omega.{arith}
 use Rattle.record.specs.Records.{decode}
@@ -12,9 +13,9 @@ use Rattle.splits.proofs.note.cells_of.Goals as goal
 pub returns-in_default : goal.returns-in_default
 returns-in_default c =
     let a = c.args in
-    let p = c.requires.0 in
+    let p = (bounds c.args.past.now) in
     let x = decode a.rec.now in
-    let h = hist a.log.now a.count in
+    let h = hist a.past.now.log.now a.past.now.count in
     let e = sym c.node-marked.ensures ∙ c.in_default.is in
     λ ix. record {
       server = server_unmarked x h e;
@@ -22,33 +23,33 @@ returns-in_default c =
       refused = refused_unmarked x h e;
       pending = pending_unmarked x h e;
       registered =
-          registered_after a.log.now x a.count c.registered_with.ensures (named_unmarked x h e)
-          (registering_read a.log.now ix.1.registered p.within p.small a.count (omega arith));
+          registered_after a.past.now.log.now x a.past.now.count c.registered_with.ensures (named_unmarked x h e)
+          (registering_read a.past.now.log.now ix.1.registered p.within p.small a.past.now.count (omega arith));
       named = named_unmarked x h e;
       records = records_unmarked x h e;
     }
 
 pub registered_with-requires-2 : goal.registered_with-requires-2
 registered_with-requires-2 c = (
-  c.requires.0.work_holds,
+  c.args.past.now.work_holds,
   (
-    c.requires.0.small,
-    (c.requires.1.0, c.registers-named.ensures.within),
+    c.args.past.now.small,
+    (c.requires, c.registers-named.ensures.within),
   ),
 )
 
 pub records_with-requires : goal.records_with-requires
 records_with-requires c = (
-  c.requires.0.work_holds,
-  (omega (arith, c.latest_of-last.ensures.within, c.requires.0), (c.requires.0.small, c.requires.1.1)),
+  c.args.past.now.work_holds,
+  (omega (arith, c.latest_of-last.ensures.within, (bounds c.args.past.now)), (c.args.past.now.small, (LENGTH c rec))),
 )
 
 pub returns : goal.returns
 returns c =
     let a = c.args in
-    let p = c.requires.0 in
+    let p = (bounds c.args.past.now) in
     let x = decode a.rec.now in
-    let h = hist a.log.now a.count in
+    let h = hist a.past.now.log.now a.past.now.count in
     let m = c.in-Some.node in
     let e =
     sym c.node-marked.ensures
@@ -60,17 +61,17 @@ returns c =
     record {
       server =
           server_after m.0 x h b c.server_with.ensures
-          (server_is a.log.now m.0 ix.1.servers p.within (omega arith) q refl);
+          (server_is a.past.now.log.now m.0 ix.1.servers p.within (omega arith) q refl);
       restated =
-          restated_after m.0 x h b c.restated_with.ensures (hist_length a.log.now a.count)
-          (restated_is a.log.now m.0 p.within (omega arith) q ix.1.restated refl);
+          restated_after m.0 x h b c.restated_with.ensures (hist_length a.past.now.log.now a.past.now.count)
+          (restated_is a.past.now.log.now m.0 p.within (omega arith) q ix.1.restated refl);
       refused =
-          refused_after m.0 x h b c.refused_with.ensures (hist_length a.log.now a.count)
-          (refused_is a.log.now m.0 p.within (omega arith) q ix.1.refused refl);
+          refused_after m.0 x h b c.refused_with.ensures (hist_length a.past.now.log.now a.past.now.count)
+          (refused_is a.past.now.log.now m.0 p.within (omega arith) q ix.1.refused refl);
       pending = c.pending_with.ensures ix m.0 q b ∙ sym (pending_cell_lem.own m.0 x h b);
       registered =
-          registered_after a.log.now x a.count c.registered_with-2.ensures named
-          (registering_read a.log.now ix.1.registered p.within p.small a.count (omega arith));
+          registered_after a.past.now.log.now x a.past.now.count c.registered_with-2.ensures named
+          (registering_read a.past.now.log.now ix.1.registered p.within p.small a.past.now.count (omega arith));
       named = named;
-      records = records_after x h m e c.records_with.ensures (restated_is a.log.now m.0 p.within (omega arith) q ix.1.restated refl);
+      records = records_after x h m e c.records_with.ensures (restated_is a.past.now.log.now m.0 p.within (omega arith) q ix.1.restated refl);
     }

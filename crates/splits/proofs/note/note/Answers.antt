@@ -7,7 +7,7 @@ pub returns : goal.returns
 returns c =
     let a = c.args in
     noted a.log.now (decode a.rec.now)
-    c.requires.1.0
+    c.requires.1
     c.cells_of-cells.ensures
     c.put_cells.ensures
     c.enter_split.ensures c.enter_recording.ensures

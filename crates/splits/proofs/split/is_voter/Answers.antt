@@ -10,7 +10,7 @@ pub loop-i-init : goal.loop-i-init
 loop-i-init c = (omega arith, refl)
 
 pub voter-requires : goal.voter-requires
-voter-requires c = (c.requires, rw (← c.voter_count-n.ensures.0) c.loop-i-test.true)
+voter-requires c = ((LENGTH c rec), rw (← c.voter_count-n.ensures.0) c.loop-i-test.true)
 
 pub returns-then-voter-server : goal.returns-then-voter-server
 returns-then-voter-server c =

@@ -1,4 +1,5 @@
 -- Kind 1 names its own; kind 2 uses up the pending RangeSplit of its node.
+use Rattle.history.proofs.Pasts.{bounds}
 use mathlib.Core.Path.{ap, ◌∙◌}
 use native.Mathlib.Omega.{arith}
 use Prim.Native.Nat.{◌-◌}
@@ -13,8 +14,8 @@ pub returns-then-is_created : goal.returns-then-is_created
 returns-then-is_created c =
     record {
       within = omega arith;
-      names = λ ix node e. names_itself c.args.log.now
-          (decode c.args.rec.now) c.args.count node
+      names = λ ix node e. names_itself c.args.past.now.log.now
+          (decode c.args.rec.now) c.args.past.now.count node
           c.is_created.ensures c.if-is_created.true;
     }
 
@@ -23,21 +24,21 @@ returns-then-k-eq0 c =
     let a = c.args in
     record {
       within = omega arith;
-      names = λ ix node e. names_none a.log.now (decode a.rec.now) a.count node c.is_created.ensures
+      names = λ ix node e. names_none a.past.now.log.now (decode a.rec.now) a.past.now.count node c.is_created.ensures
           c.if-is_created.false
-          (pendingly_is a.log.now node c.requires.0.within (omega arith) e ix.1.pendings
+          (pendingly_is a.past.now.log.now node c.args.past.now.within (omega arith) e ix.1.pendings
           c.pending_by-k.ensures.1) c.if-k-eq0.true;
     }
 
-pub record_at-requires : goal.record_at-requires
-record_at-requires c = omega (arith, c.requires.0, c.pending_by-k.ensures.0)
+pub record-requires : goal.record-requires
+record-requires c = omega (arith, (bounds c.args.past.now), c.pending_by-k.ensures.0)
 
 pub uses_up-requires : goal.uses_up-requires
 uses_up-requires c = (
-  c.requires.1.0,
-  rw c.record_at.ensures
-      (bytes_length c.args.log.now (c.pending_by-k.result - 1)
-      (omega (arith, c.requires.0, c.pending_by-k.ensures.0))),
+  (LENGTH c rec),
+  rw c.record.ensures
+      (bytes_length c.args.past.now.log.now (c.pending_by-k.result - 1)
+      (omega (arith, (bounds c.args.past.now), c.pending_by-k.ensures.0))),
 )
 
 pub returns-then-uses_up : goal.returns-then-uses_up
@@ -45,12 +46,12 @@ returns-then-uses_up c =
     let a = c.args in
     record {
       within = omega (arith, c.pending_by-k.ensures.0);
-      names = λ ix node e. names_used a.log.now (decode a.rec.now) a.count node c.is_created.ensures
+      names = λ ix node e. names_used a.past.now.log.now (decode a.rec.now) a.past.now.count node c.is_created.ensures
           c.if-is_created.false
-          (pendingly_is a.log.now node c.requires.0.within
+          (pendingly_is a.past.now.log.now node c.args.past.now.within
           (omega arith) e ix.1.pendings c.pending_by-k.ensures.1) c.if-k-eq0.false
           (c.uses_up.ensures ∙ ap (λ (y : TraceRecord). uses_up (decode a.rec.now) (pending_by y))
-          (record_bytes a.log.now _ c.record_at.ensures)) c.if-uses_up.true;
+          (record_bytes a.past.now.log.now _ c.record.ensures)) c.if-uses_up.true;
     }
 
 pub returns-else-uses_up : goal.returns-else-uses_up
@@ -58,10 +59,10 @@ returns-else-uses_up c =
     let a = c.args in
     record {
       within = omega arith;
-      names = λ ix node e. names_other a.log.now (decode a.rec.now) a.count node
+      names = λ ix node e. names_other a.past.now.log.now (decode a.rec.now) a.past.now.count node
           c.is_created.ensures c.if-is_created.false
-          (pendingly_is a.log.now node c.requires.0.within
+          (pendingly_is a.past.now.log.now node c.args.past.now.within
           (omega arith) e ix.1.pendings c.pending_by-k.ensures.1) c.if-k-eq0.false
           (c.uses_up.ensures ∙ ap (λ (y : TraceRecord). uses_up (decode a.rec.now) (pending_by y))
-          (record_bytes a.log.now _ c.record_at.ensures)) c.if-uses_up.false;
+          (record_bytes a.past.now.log.now _ c.record.ensures)) c.if-uses_up.false;
     }

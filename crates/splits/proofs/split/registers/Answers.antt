@@ -9,8 +9,8 @@ pub returns-then-named-eq0 : goal.returns-then-named-eq0
 returns-then-named-eq0 c =
     record {
       within = omega arith;
-      names = λ ix node m e. registers_none c.args.log.now
-          (decode c.args.rec.now) c.args.count node m
+      names = λ ix node m e. registers_none c.args.past.now.log.now
+          (decode c.args.rec.now) c.args.past.now.count node m
           (c.names-named.ensures.names ix node.0 e) c.if-named-eq0.true;
     }
 
@@ -19,7 +19,7 @@ returns-then-split_of-ne0 c =
     let a = c.args in
     record {
       within = omega arith;
-      names = λ ix node m e. registers_known a.log.now (decode a.rec.now) a.count node m
+      names = λ ix node m e. registers_known a.past.now.log.now (decode a.rec.now) a.past.now.count node m
           (c.names-named.ensures.names ix node.0 e) c.if-named-eq0.false
           (c.split_of.ensures.latest ix ∙ rw (c.parent_of.ensures, c.b.ensures)) c.if-split_of-ne0.true;
     }
@@ -29,7 +29,7 @@ returns c =
     let a = c.args in
     record {
       within = c.names-named.ensures.within;
-      names = λ ix node m e. registers_new a.log.now (decode a.rec.now) a.count node m
+      names = λ ix node m e. registers_new a.past.now.log.now (decode a.rec.now) a.past.now.count node m
           (c.names-named.ensures.names ix node.0 e) c.if-named-eq0.false
           (c.split_of.ensures.latest ix ∙ rw (c.parent_of.ensures, c.b.ensures)) c.if-split_of-ne0.false;
     }

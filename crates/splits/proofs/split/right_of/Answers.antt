@@ -31,7 +31,7 @@ c-requires c =
     (c.args.named - 1)
     (omega (
       arith,
-      c.requires.0,
+      c.requires,
       or_off c.args.named
           c.args.count c.if-named-count.false,
     )))

@@ -1,4 +1,5 @@
 -- The walk along the chain of parent and index leaves out no record that registers that split.
+use Rattle.history.proofs.Pasts.{bounds}
 use mathlib.Core.Path.{refl, ap, ◌∙◌}
 use native.Mathlib.Omega.{arith}
 use mathlib.Core.Bool.{◌&&◌}
@@ -17,18 +18,18 @@ pub loop-i-init : goal.loop-i-init
 loop-i-init c =
     let a = c.args in (
       c.split_top-i.ensures.0,
-      λ ix. walk_first (by_split_lem a.parent a.index a.cap) a.log.now a.top a.count ix.1.splits
-          c.requires.1 refl (two_below a.cap a.parent a.index c.requires.0.positive) refl
+      λ ix. walk_first (by_split_lem a.parent a.index a.past.now.cap) a.past.now.log.now a.top a.past.now.count ix.1.splits
+          c.requires refl (two_below a.past.now.cap a.parent a.index c.args.past.now.positive) refl
           c.split_top-i.ensures.1,
     )
 
-pub record_at-requires : goal.record_at-requires
-record_at-requires c = omega (arith, c.requires.0)
+pub record-requires : goal.record-requires
+record-requires c = omega (arith, (bounds c.args.past.now))
 
 pub is_split-requires : goal.is_split-requires
 is_split-requires c =
-    rw c.record_at.ensures (bytes_length c.args.log.now (c.loop-i.i - 1)
-    (omega (arith, c.requires.0)))
+    rw c.record.ensures (bytes_length c.args.past.now.log.now (c.loop-i.i - 1)
+    (omega (arith, (bounds c.args.past.now))))
 
 pub returns-then-i-top : goal.returns-then-i-top
 returns-then-i-top c =
@@ -38,17 +39,17 @@ returns-then-i-top c =
       within = leb-true l.i a.top (and_left (leb l.i a.top) c.is_split.result c.if-i-top.true);
       latest = λ ix.
           let w = l.invariant.1 ix in
-          walk_hit (by_split_lem a.parent a.index a.cap) a.log.now a.top c.loop-i-test.true w
+          walk_hit (by_split_lem a.parent a.index a.past.now.cap) a.past.now.log.now a.top c.loop-i-test.true w
           (c.is_split.ensures ∙ ap (λ (y : TraceRecord). eqb (parent_by y) a.parent && eqb y.b a.index)
-          (record_bytes a.log.now _ c.record_at.ensures)
-          ∙ split_test a.parent a.index a.cap a.log.now (l.i - 1) (w.here c.loop-i-test.true))
+          (record_bytes a.past.now.log.now _ c.record.ensures)
+          ∙ split_test a.parent a.index a.past.now.cap a.past.now.log.now (l.i - 1) (w.here c.loop-i-test.true))
           c.if-i-top.true;
     }
 
 pub split_below-i-requires : goal.split_below-i-requires
 split_below-i-requires c = (
-  c.requires.0.work_holds,
-  (omega (arith, c.requires.0), c.requires.0.small),
+  c.args.past.now.work_holds,
+  (omega (arith, (bounds c.args.past.now)), c.args.past.now.small),
 )
 
 pub loop-i-smaller : goal.loop-i-smaller
@@ -61,12 +62,12 @@ loop-i-preserved c =
       omega (arith, c.split_below-i.ensures.0),
       λ ix.
           let w = l.invariant.1 ix in
-          walk_next (by_split_lem a.parent a.index a.cap) a.log.now a.top a.count ix.1.splits
-          c.requires.0.within c.loop-i-test.true
+          walk_next (by_split_lem a.parent a.index a.past.now.cap) a.past.now.log.now a.top a.past.now.count ix.1.splits
+          c.args.past.now.within c.loop-i-test.true
           l.invariant.0 w
           (c.is_split.ensures ∙ ap (λ (y : TraceRecord). eqb (parent_by y) a.parent && eqb y.b a.index)
-          (record_bytes a.log.now _ c.record_at.ensures)
-          ∙ split_test a.parent a.index a.cap a.log.now (l.i - 1) (w.here c.loop-i-test.true))
+          (record_bytes a.past.now.log.now _ c.record.ensures)
+          ∙ split_test a.parent a.index a.past.now.cap a.past.now.log.now (l.i - 1) (w.here c.loop-i-test.true))
           c.if-i-top.false refl c.split_below-i.ensures.1,
     )
 
@@ -75,5 +76,5 @@ returns c =
     let a = c.args in
     record {
       within = omega arith;
-      latest = λ ix. walk_end (by_split_lem a.parent a.index a.cap) a.log.now a.top (omega arith) (c.loop-i.invariant.1 ix);
+      latest = λ ix. walk_end (by_split_lem a.parent a.index a.past.now.cap) a.past.now.log.now a.top (omega arith) (c.loop-i.invariant.1 ix);
     }

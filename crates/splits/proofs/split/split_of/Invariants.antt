@@ -8,8 +8,8 @@ use Rattle.splits.proofs.split.split_of.Given as goal
 
 abbrev pub invariant-loop-i : goal.invariant-loop-i
 invariant-loop-i l =
-    (l.i ≤ l.count) × (Known l.cap (hist l.log l.count) l.work
-    → Walking (registers_as l.parent l.index) (by_split l.cap) (split_bucket l.cap l.parent l.index) l.log l.top l.i)
+    (l.i ≤ l.past.count) × (Indexed Known l.past
+    → Walking (registers_as l.parent l.index) (by_split l.past.cap) (split_bucket l.past.cap l.parent l.index) l.past.log.now l.top l.i)
 
 abbrev pub decreases-loop-i : goal.decreases-loop-i
 decreases-loop-i l = l.i

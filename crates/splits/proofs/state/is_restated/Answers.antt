@@ -6,4 +6,4 @@ pub returns : goal.returns
 returns c =
     let a = c.args in
     let p = c.requires in
-    λ ix. mark_is a.log.now a.node.0 p.0.within p.1 (c.latest_of-last.ensures.latest ix.0) ix.1.restated c.restated_by.ensures.1
+    λ ix. mark_is a.past.now.log.now a.node.0 p.0.within p.1 (c.latest_of-last.ensures.latest ix.0) ix.1.restated c.restated_by.ensures.1

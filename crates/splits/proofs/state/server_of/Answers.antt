@@ -7,5 +7,5 @@ pub returns : goal.returns
 returns c =
     let a = c.args in
     let p = c.requires in
-    λ ix. same_server _ _ (server_is a.log.now a.node.0 ix.1.servers p.0.within p.1 (c.latest_of-last.ensures.latest ix.0)
+    λ ix. same_server _ _ (server_is a.past.now.log.now a.node.0 ix.1.servers p.0.within p.1 (c.latest_of-last.ensures.latest ix.0)
     c.server_by.ensures)
