@@ -215,6 +215,6 @@ pub fn note(log: &[u8], work: &mut [u64], count: usize, cap: usize, rec: &Record
     ensures others { (j : ℕ) → own_columns * cap ≤ j → get_or work.new j 0 ≡ get_or work.old j 0 }
     ensures indexed { DescriptorsIndexed cap (hist log.now count) work.old → DescriptorsIndexed cap (decode rec.now ∷ hist log.now count) work.new }
 {
-    let told = told_of(log, work, count, cap, rec);
+    let told = told_of(&Past { log, work, count, cap }, rec);
     note_told(work, count, cap, rec, told);
 }

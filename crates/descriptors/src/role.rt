@@ -11,7 +11,7 @@ use history::past::Past;
 use crate::cells::{applied_below, applied_top};
 use history::bucket::bucket_by_two;
 use record::Record;
-use record::field::{a, b, c, cause, code, kind, node};
+use record::field::{a, b, c, code, kind, node};
 use record::named::{NodeId, RangeCause};
 
 #[derive(Clone, Copy)]
@@ -88,7 +88,7 @@ pub fn role_of(past: &Past, rec: &Record) -> Role
 {
     let k = kind(rec);
     if k == 1 {
-        return created_role(cause(code(rec)), b(rec));
+        return created_role(RangeCause::from(code(rec)), b(rec));
     }
     if k != 2 {
         return Role::Neither;

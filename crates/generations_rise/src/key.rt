@@ -5,7 +5,6 @@ ghost use Rattle.generations_rise.specs.Columns.{key_number, bucket_by_key};
 
 use history::bucket::bucket_by_two;
 use record::key::key;
-use record::number::wide64;
 
 // Where the last eight of n bytes begin.
 fn tail_of(n: usize) -> usize
@@ -24,7 +23,7 @@ fn key_number(k: &[u8]) -> u64
     let mut n: u64 = 0;
     let mut i = tail_of(k.len());
     while i < k.len() {
-        n = n % 0x100_0000_0000_0000 * 256 + wide64(k[i]);
+        n = n % 0x100_0000_0000_0000 * 256 + u64::from(k[i]);
         i += 1;
     }
     n

@@ -55,6 +55,6 @@ pub fn note(log: &[u8], work: &mut [u64], count: usize, cap: usize, rec: &Record
     requires { Bounds log.now work.old count cap × (count < cap) }
     ensures { GenerationsTaken cap (hist log.now count) (decode rec.now) work.old work.new }
 {
-    let w = counts_as(log, work, count, cap, rec);
+    let w = counts_as(&Past { log, work, count, cap }, rec);
     note_as(work, count, cap, rec, w);
 }

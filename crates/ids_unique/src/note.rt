@@ -86,7 +86,7 @@ pub fn note(log: &[u8], work: &mut [u64], count: usize, cap: usize, rec: &Record
     requires { Bounds log.now work.old count cap × (count < cap) }
     ensures { IdsNoted cap (hist log.now count) (decode rec.now) work.old work.new }
 {
-    let first = is_first(log, work, count, cap, rec);
+    let first = is_first(&Past { log, work, count, cap }, rec);
     mark(work, count, cap, first & is_full(rec), e(rec));
     if first {
         enter_grant(work, count, cap, rec);

@@ -42,6 +42,6 @@ pub fn note(log: &[u8], work: &mut [u64], count: usize, cap: usize, rec: &Record
     ensures { MetaNoted cap (hist log.now count) (decode rec.now) work.old work.new }
 {
     let latest = name_with(work, count, cap, rec);
-    let highest = is_highest(log, work, count, cap, rec);
+    let highest = is_highest(&Past { log, work, count, cap }, rec);
     put(work, LATEST_NAME * cap + count, word(latest, highest));
 }

@@ -10,14 +10,13 @@ use history::span::start_of;
 use record::Record;
 use record::field::span_count;
 use record::key::key;
-use record::number::{wide32, wide64};
 
 // The number of four bytes and of eight, the first counting most.
 fn big32(s: &[u8], at: usize) -> u32
     requires { at + 4 ≤ length s.now }
     ensures { result ≡ big_endian (part at (at + 4) s.now) }
 {
-    256 * (256 * (256 * wide32(s[at]) + wide32(s[at + 1])) + wide32(s[at + 2])) + wide32(s[at + 3])
+    256 * (256 * (256 * u32::from(s[at]) + u32::from(s[at + 1])) + u32::from(s[at + 2])) + u32::from(s[at + 3])
 }
 
 fn big64(s: &[u8], at: usize) -> u64

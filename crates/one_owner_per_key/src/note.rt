@@ -108,7 +108,7 @@ pub fn note(log: &[u8], work: &mut [u64], count: usize, cap: usize, rec: &Record
     let Some(node) = marked else {
         return;
     };
-    let cells = cells_of(log, work, count, cap, rec, node);
+    let cells = cells_of(&Past { log, work, count, cap }, rec, node);
     enter_hold(work, count, cap, rec, node);
     enter(
         work,

@@ -200,7 +200,7 @@ pub fn note(log: &[u8], work: &mut [u64], count: usize, cap: usize, rec: &Record
     requires { Bounds log.now work.old count cap × (count < cap) }
     ensures { HalfNoted cap (hist log.now count) (decode rec.now) work.old work.new }
 {
-    let cells = cells_of(log, work, count, cap, rec);
+    let cells = cells_of(&Past { log, work, count, cap }, rec);
     let named = cells.named;
     let records = cells.records;
     put_cells(work, cap, count, cells);

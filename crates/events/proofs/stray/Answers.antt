@@ -22,12 +22,6 @@ returns-then-n-eq0 c =
     let goes : continues x ≡ true = sym c.continues.ensures ∙ c.if-not-continues.false in
     sym (stray_first x c.args.log.now c.args.n goes c.if-n-eq0.true)
 
-pub goes_on-requires : goal.goes_on-requires
-goes_on-requires c =
-    let l = c.requires in
-    let z = c.if-n-eq0.false in
-    ((LENGTH c rec), record_length c.args.log.now (c.args.n - 1) c.record_at.ensures (omega arith))
-
 pub returns : goal.returns
 returns c =
     let x = decode c.args.rec.now in
