@@ -30,12 +30,6 @@ loop-i-init c = let a = c.args in (
   ),
 )
 
-pub becomes_faulty-faulty-requires : goal.becomes_faulty-faulty-requires
-becomes_faulty-faulty-requires c = let p = c.requires in (
-  p.0,
-  (p.1.0, (p.1.1.0, (p.1.1.1, record_length c.args.past.now.log.now (c.loop-i.i - 1) c.record.ensures (omega arith)))),
-)
-
 pub loop-i-preserved : goal.loop-i-preserved
 loop-i-preserved c = let a = c.args in
     let l = c.loop-i in (

@@ -1,5 +1,5 @@
 -- A walk along the range's statements, newest first: each that becomes faulty replaces the one found before, so the earliest stays.
-use Rattle.history.specs.Pasts.{taken}
+use Rattle.history.specs.Pasts.{taken, Indexed}
 use Prim.Native.Nat.{◌≤◌}
 use mathlib.Core.Path.{◌≡◌}
 use Rattle.record.specs.Records.{decode}

@@ -12,9 +12,6 @@ pub returns-then-n-eq0 : goal.returns-then-n-eq0
 returns-then-n-eq0 c = let a = c.args in λ k. is_ahead_none a.past.now.log.now c.greatest-n.result (decode a.s.now)
     (hist a.past.now.log.now a.past.now.count) a.index c.a.ensures (standing (hist a.past.now.log.now a.past.now.count)) (c.greatest-n.ensures.1 k) (decode a.s.now).d c.if-n-eq0.true
 
-pub d-requires : goal.d-requires
-d-requires c = record_length c.args.past.now.log.now (c.greatest-n.result - 1) c.record.ensures (omega (arith, c.greatest-n.ensures.0, c.if-n-eq0.false))
-
 pub returns : goal.returns
 returns c = let a = c.args in λ k. is_ahead_some a.past.now.log.now c.greatest-n.result (decode a.s.now) (hist a.past.now.log.now a.past.now.count) a.index c.a.ensures
     (standing (hist a.past.now.log.now a.past.now.count)) (c.greatest-n.ensures.1 k) (decode a.s.now).d c.if-n-eq0.false c.record.ensures c.d.ensures c.d-2.ensures

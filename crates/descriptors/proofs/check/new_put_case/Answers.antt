@@ -15,16 +15,6 @@ returns-then-n-eq0 c = let a = c.args in λ k role free clear. put_clear a.past.
     (last_is (decode a.rec.now) (hist a.past.now.log.now a.past.now.count) a.index (standing (hist a.past.now.log.now a.past.now.count)) c.a-2.ensures c.d.ensures
     (c.last_of-last.ensures.1 k))) c.if-n-eq0.true
 
-pub new_case-requires : goal.new_case-requires
-new_case-requires c = let p = c.requires in (
-  p.0,
-  (
-    p.1,
-    record_length c.args.past.now.log.now (c.first_faulty-n.result - 1) c.record.ensures
-        (omega (arith, p.0, c.first_faulty-n.ensures.0, c.if-n-eq0.false)),
-  ),
-)
-
 pub returns : goal.returns
 returns c = let a = c.args in λ k role free clear. put_faulty a.past.now.log.now c.first_faulty-n.result (decode a.rec.now)
     (hist a.past.now.log.now a.past.now.count) a.index role free clear (c.first_faulty-n.ensures.1 k

@@ -22,13 +22,6 @@ returns-then-n-eq0 c =
     let place = place_is x h args.index (standing h) c.a.ensures (c.standing_at-n.ensures.1 k) in
     c.new_put_case.ensures k role (place_free log c.standing_at-n.result x h args.index place c.if-n-eq0.true) clear
 
-pub same_held-requires : goal.same_held-requires
-same_held-requires c =
-    let log = c.args.past.now.log.now in
-    let place = c.standing_at-n.result - 1 in
-    let within : 368 * place + 368 ≤ length log = omega (arith, (bounds c.args.past.now), c.standing_at-n.ensures.0, c.if-n-eq0.false) in
-    (record_length log place c.record.ensures within, (LENGTH c rec))
-
 pub returns-then-same_held : goal.returns-then-same_held
 returns-then-same_held c =
     let args = c.args in

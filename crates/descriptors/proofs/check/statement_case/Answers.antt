@@ -13,16 +13,6 @@ pub returns-then-n-eq0 : goal.returns-then-n-eq0
 returns-then-n-eq0 c = let a = c.args in λ k. state_none a.past.now.log.now c.greatest-n.result (decode a.rec.now) (hist a.past.now.log.now a.past.now.count) a.index c.a.ensures
     (standing (hist a.past.now.log.now a.past.now.count)) (c.greatest-n.ensures.1 k) c.if-n-eq0.true
 
-pub differing_case-requires : goal.differing_case-requires
-differing_case-requires c = (
-  (bounds c.args.past.now),
-  (
-    record_length c.args.past.now.log.now (c.greatest-n.result - 1) c.record.ensures
-        (omega (arith, c.greatest-n.ensures.0, c.if-n-eq0.false)),
-    (LENGTH c rec),
-  ),
-)
-
 pub returns : goal.returns
 returns c = let a = c.args in λ k. state_some a.past.now.log.now c.greatest-n.result (decode a.rec.now) (hist a.past.now.log.now a.past.now.count) a.index c.a.ensures
     (standing (hist a.past.now.log.now a.past.now.count)) (c.greatest-n.ensures.1 k) c.if-n-eq0.false c.record.ensures (c.differing_case.ensures k)

@@ -19,12 +19,6 @@ loop-i-init c = let a = c.args in (
       (omega (arith, c.bucket_by_two.ensures)) (refl) (omega (arith, c.bucket_by_two.ensures)) c.applied_top-i.ensures.1,
 )
 
-pub is_applied-requires : goal.is_applied-requires
-is_applied-requires c = record_length c.args.past.now.log.now (c.loop-i.i - 1) c.record.ensures (omega arith)
-
-pub b-requires : goal.b-requires
-b-requires c = record_length c.args.past.now.log.now (c.loop-i.i - 1) c.record-then-is_applied.ensures (omega arith)
-
 pub returns-then-is_applied : goal.returns-then-is_applied
 returns-then-is_applied c = let a = c.args in
     let l = c.loop-i in λ k.

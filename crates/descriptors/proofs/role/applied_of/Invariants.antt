@@ -1,6 +1,6 @@
 -- A walk along the chain of node and range: the first record that tells the applied index is the latest that does, since
 -- records outside the bucket tell none.
-use Rattle.history.specs.Pasts.{taken}
+use Rattle.history.specs.Pasts.{taken, Indexed}
 use Prim.Native.Nat.{◌≤◌}
 use Rattle.rules.specs.Descriptors.{applied}
 use Rattle.history.proofs.Chains.{Stands}

@@ -7,7 +7,7 @@ use Rattle.descriptors.proofs.role.role_of.Goals as goal
 pub returns-then-k-eq1 : goal.returns-then-k-eq1
 unfolding role_of
 returns-then-k-eq1 c = let a = c.args in λ k. rw (eq-eqb _ 1 (sym c.kind-k.ensures ∙ c.if-k-eq1.true))
-    (c.created_role.ensures ∙ rw (c.cause.ensures, c.code.ensures, c.b.ensures))
+    (c.created_role.ensures ∙ rw (c.from.ensures, c.code.ensures, c.b.ensures))
 
 pub returns-then-k-ne2 : goal.returns-then-k-ne2
 unfolding role_of

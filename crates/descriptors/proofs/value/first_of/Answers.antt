@@ -17,9 +17,6 @@ loop-i-init c = let a = c.args in (
       (omega (arith, c.bucket_by_two.ensures)) (refl) (omega (arith, c.bucket_by_two.ensures)) c.generation_top-i.ensures.1,
 )
 
-pub is_of-requires : goal.is_of-requires
-is_of-requires c = record_length c.args.past.now.log.now (c.loop-i.i - 1) c.record.ensures (omega arith)
-
 pub returns-then-is_of : goal.returns-then-is_of
 returns-then-is_of c = let a = c.args in
     let l = c.loop-i in (

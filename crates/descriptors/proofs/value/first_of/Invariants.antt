@@ -1,5 +1,5 @@
 -- A walk along the first values of generations: the one of the range and generation is the earliest standing value of both.
-use Rattle.history.specs.Pasts.{taken}
+use Rattle.history.specs.Pasts.{taken, Indexed}
 use Prim.Native.Nat.{◌≤◌}
 use Rattle.rules.specs.Descriptors.{first_at_generation}
 use Rattle.history.proofs.Chains.{Stands}

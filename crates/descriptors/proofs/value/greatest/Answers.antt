@@ -24,9 +24,6 @@ loop-i-init c = let a = c.args in (
   ),
 )
 
-pub is_up_to-passes-requires : goal.is_up_to-passes-requires
-is_up_to-passes-requires c = record_length c.args.past.now.log.now (c.loop-i.i - 1) c.record.ensures (omega arith)
-
 pub returns-then-passes-is_rising : goal.returns-then-passes-is_rising
 returns-then-passes-is_rising c = let a = c.args in
     let l = c.loop-i in (

@@ -1,6 +1,6 @@
 -- A walk along the range's standing values: the best so far, weighed against the greatest of the rest, stays the greatest of all,
 -- and past a marked one that passes the rest is below it.
-use Rattle.history.specs.Pasts.{taken}
+use Rattle.history.specs.Pasts.{taken, Indexed}
 use Prim.Native.Nat.{◌≤◌}
 use Rattle.rules.specs.Descriptors.{standing}
 use Rattle.history.proofs.Chains.{Stands}

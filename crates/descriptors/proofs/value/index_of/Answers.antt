@@ -6,8 +6,5 @@ use Rattle.record.specs.Records.{TraceRecord}
 use Rattle.history.proofs.Logs.{record_bytes, record_length}
 use Rattle.descriptors.proofs.value.index_of.Goals as goal
 
-pub b-requires : goal.b-requires
-b-requires c = record_length c.args.log.now (c.args.number - 1) c.record_at.ensures (omega arith)
-
 pub returns : goal.returns
 returns c = c.b.ensures ∙ ap (λ (x : TraceRecord). x.b) (record_bytes _ _ c.record_at.ensures)

@@ -23,9 +23,6 @@ loop-i-init c = let a = c.args in (
   ),
 )
 
-pub is_above-passes-requires : goal.is_above-passes-requires
-is_above-passes-requires c = record_length c.args.past.now.log.now (c.loop-i.i - 1) c.record.ensures (omega arith)
-
 pub returns-then-rest_below : goal.returns-then-rest_below
 returns-then-rest_below c = let a = c.args in
     let l = c.loop-i in (

@@ -3,12 +3,6 @@ use native.Mathlib.Omega.{arith}
 use Rattle.history.proofs.Logs.{record_bytes, record_length}
 use Rattle.descriptors.proofs.value.rest_below.Goals as goal
 
-pub a-requires : goal.a-requires
-a-requires c = let a = c.args in record_length a.log.now a.i c.record_at-rec.ensures (omega arith)
-
-pub b-requires : goal.b-requires
-b-requires c = let a = c.args in record_length a.log.now a.i c.record_at-rec.ensures (omega arith)
-
 pub returns : goal.returns
 returns c = let a = c.args in
     rw (c.is_rising.ensures, c.a.ensures, c.b.ensures, record_bytes a.log.now a.i c.record_at-rec.ensures)

@@ -21,9 +21,6 @@ loop-i-init c = let a = c.args in (
       (omega (arith, c.bucket_by.ensures)) (refl) (omega (arith, c.bucket_by.ensures)) c.standing_top-i.ensures.1,
 )
 
-pub is_at-requires : goal.is_at-requires
-is_at-requires c = record_length c.args.past.now.log.now (c.loop-i.i - 1) c.record.ensures (omega arith)
-
 pub returns-then-is_at : goal.returns-then-is_at
 returns-then-is_at c = let a = c.args in
     let l = c.loop-i in (

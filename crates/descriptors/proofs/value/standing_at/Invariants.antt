@@ -1,6 +1,6 @@
 -- A walk along the range's standing values: the first at the place is the value there, and past a marked one that is not above
 -- it there is none.
-use Rattle.history.specs.Pasts.{taken}
+use Rattle.history.specs.Pasts.{taken, Indexed}
 use Prim.Native.Nat.{◌≤◌}
 use Rattle.rules.specs.Descriptors.{standing}
 use Rattle.rules.specs.History.{latest_of}
