@@ -6,14 +6,13 @@ ghost use Rattle.rules.specs.OneOwnerPerKey.{overlap_at, install_at, install_fau
 ghost use Rattle.one_owner_per_key.specs.Columns.{OwnersIndexed};
 ghost use Rattle.history.specs.Pasts.{taken, Indexed};
 
-use history::past::Past;
 use crate::group::group_of;
 use crate::held::{held_by, is_holding};
 use crate::meeting::{Others, lowest_meeting};
+use history::past::Past;
 use history::span::start_of;
-use record::Record;
-use record::field;
 use record::named::NodeId;
+use record::{Record, field};
 use rules::Fault;
 
 // overlap: the range that the record makes its node hold, over a span that meets that of another. The Rust's `hold`.
@@ -40,11 +39,7 @@ fn replaced_case(past: &Past, rec: &Record, tenant: u64, node: NodeId, k: usize)
     if group_of(start_of(rec, k), tenant).is_some() {
         return None;
     }
-    let range = lowest_meeting(past, node,
-        rec,
-        k,
-        Others::NotNamed(tenant),
-    )?;
+    let range = lowest_meeting(past, node, rec, k, Others::NotNamed(tenant))?;
     Some(Fault::new(1, &[node.0 as u64, range]))
 }
 

@@ -16,7 +16,8 @@ fn big32(s: &[u8], at: usize) -> u32
     requires { at + 4 ≤ length s.now }
     ensures { result ≡ big_endian (part at (at + 4) s.now) }
 {
-    256 * (256 * (256 * u32::from(s[at]) + u32::from(s[at + 1])) + u32::from(s[at + 2])) + u32::from(s[at + 3])
+    256 * (256 * (256 * u32::from(s[at]) + u32::from(s[at + 1])) + u32::from(s[at + 2]))
+        + u32::from(s[at + 3])
 }
 
 fn big64(s: &[u8], at: usize) -> u64

@@ -10,11 +10,10 @@ ghost use Rattle.one_owner_per_key.specs.Columns.{OwnersIndexed};
 ghost use Rattle.rules.specs.Answers.{found_at};
 ghost use Rattle.history.specs.Pasts.{Indexed};
 
-use history::past::Past;
 use crate::cells::{end_by, hold_below, hold_top, node_below, node_top};
-use record::Record;
-use record::field;
+use history::past::Past;
 use record::named::NodeId;
+use record::{Record, field};
 
 // Whether a record is marked with a node.
 pub fn is_by(rec: &Record, node: NodeId) -> bool
@@ -87,11 +86,7 @@ pub fn held_after(past: &Past, top: usize, node: NodeId, range: u64, ended: usiz
     if k <= ended {
         return 0;
     }
-    if is_holding(past.record(k - 1)) {
-        k
-    } else {
-        0
-    }
+    if is_holding(past.record(k - 1)) { k } else { 0 }
 }
 
 // The record over whose span a node holds a range, as of the first top records.
@@ -102,9 +97,5 @@ pub fn held_by(past: &Past, top: usize, node: NodeId, range: u64) -> Option<u64>
     let last = latest_of(past, top, node);
     let ended = end_by(past.work, past.cap, last);
     let k = held_after(past, top, node, range, ended);
-    if k == 0 {
-        None
-    } else {
-        Some(k as u64)
-    }
+    if k == 0 { None } else { Some(k as u64) }
 }

@@ -12,15 +12,14 @@ ghost use Rattle.one_owner_per_key.specs.Answers.{is_below};
 ghost use Rattle.one_owner_per_key.specs.Answers as answer;
 ghost use Rattle.history.specs.Pasts.{taken, Indexed};
 
-use history::past::Past;
 use crate::cells::{end_by, latest_newly, newly_before};
 use crate::group::is_named;
 use crate::held::{held_after, latest_of};
+use history::past::Past;
 use history::span::{end_of, start_of};
-use record::Record;
-use record::field;
 use record::key::key_less;
 use record::named::NodeId;
+use record::{Record, field};
 
 // Which ranges may not be met: those other than one, or those that no start in the record names.
 #[derive(Clone, Copy)]
@@ -71,7 +70,16 @@ fn is_below(range: u64, best: Option<u64>) -> bool
 }
 
 // The lowest so far, with a range more.
-fn lowered(past: &Past, node: NodeId, range: u64, ended: usize, rec: &Record, k: usize, others: Others, best: Option<u64>) -> Option<u64>
+fn lowered(
+    past: &Past,
+    node: NodeId,
+    range: u64,
+    ended: usize,
+    rec: &Record,
+    k: usize,
+    others: Others,
+    best: Option<u64>,
+) -> Option<u64>
     requires { k < 4 }
     ensures { Indexed OwnersIndexed past.now → ended ≡ latest_end node.0 (taken past.now) → result ≡ cond (answer.passes others (decode rec.now).spans range && holds (rule.meets (span_of k (decode rec.now))) (hold_of node.0 range (taken past.now))) (lower (λ n. n) range best) best }
 {
@@ -86,7 +94,13 @@ fn lowered(past: &Past, node: NodeId, range: u64, ended: usize, rec: &Record, k:
 }
 
 // The lowest range that may not be met and that a node holds over a span that meets the record's.
-pub fn lowest_meeting(past: &Past, node: NodeId, rec: &Record, k: usize, others: Others) -> Option<u64>
+pub fn lowest_meeting(
+    past: &Past,
+    node: NodeId,
+    rec: &Record,
+    k: usize,
+    others: Others,
+) -> Option<u64>
     requires { k < 4 }
     ensures { Indexed OwnersIndexed past.now → result ≡ lowest_meeting (answer.passes others (decode rec.now).spans) (span_of k (decode rec.now)) node.0 (taken past.now) }
 {
@@ -96,8 +110,7 @@ pub fn lowest_meeting(past: &Past, node: NodeId, rec: &Record, k: usize, others:
     let mut i = latest_newly(past.work, past.cap, last);
     while ended < i {
         let range = field::a(past.record(i - 1));
-        best = lowered(past, node, range, ended, rec, k, others, best,
-        );
+        best = lowered(past, node, range, ended, rec, k, others, best);
         i = newly_before(past.work, past.cap, i);
     }
     best

@@ -11,14 +11,13 @@ ghost use Rattle.one_owner_per_key.specs.Numbers.{latest_end};
 ghost use Rattle.one_owner_per_key.specs.Columns.{OwnersIndexed, OwnersNoted, is_chained, bit, newly_cell, ended_cell, EnteredIf};
 ghost use Rattle.history.specs.Pasts.{taken, Indexed};
 
-use history::past::Past;
 use crate::cells::{end_by, hold_bucket, latest_newly, node_bucket};
 use crate::held::{held_after, is_holding, latest_of};
 use history::chain::{enter, put};
+use history::past::Past;
 use history::place::{ENDED_AT, HOLD_HEADS, HOLD_LINKS, NEWLY_HELD, NODE_HEADS, NODE_LINKS};
-use record::Record;
-use record::field;
 use record::named::NodeId;
+use record::{Record, field};
 
 // What is written of a record: whether it newly holds its range, with the one before it that did; its node's latest end.
 #[derive(Clone, Copy)]
@@ -108,7 +107,16 @@ pub fn note(log: &[u8], work: &mut [u64], count: usize, cap: usize, rec: &Record
     let Some(node) = marked else {
         return;
     };
-    let cells = cells_of(&Past { log, work, count, cap }, rec, node);
+    let cells = cells_of(
+        &Past {
+            log,
+            work,
+            count,
+            cap,
+        },
+        rec,
+        node,
+    );
     enter_hold(work, count, cap, rec, node);
     enter(
         work,

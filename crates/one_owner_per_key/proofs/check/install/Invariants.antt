@@ -1,8 +1,7 @@
 -- No span before k has a fault.
-use Rattle.history.specs.Pasts.{taken}
+use Rattle.history.specs.Pasts.{taken, Indexed}
 use mathlib.Core.Path.{◌≡◌}
 use Rattle.record.specs.Records.{decode}
-use Rattle.history.specs.Logs.{hist}
 use Prim.Native.Nat.{◌≤◌, ◌-◌}
 use lib.ListN.{length, drop}
 use Rattle.rules.specs.Cases.{first_case}

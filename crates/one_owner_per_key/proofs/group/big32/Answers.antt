@@ -42,4 +42,4 @@ overflow_add-result-3 c =
 
 pub returns : goal.returns
 returns c =
-    rw (c.wide32.ensures, c.wide32-2.ensures, c.wide32-3.ensures, c.wide32-4.ensures) (big32_bytes c.args.at c.args.s.now c.requires)
+    rw (c.from.ensures, c.from-2.ensures, c.from-3.ensures, c.from-4.ensures) (big32_bytes c.args.at c.args.s.now c.requires)

@@ -1,11 +1,9 @@
 -- The latest that says what is held, against the latest end.
-use Rattle.history.proofs.Pasts.{bounds}
 use mathlib.Core.Path.{ap, ◌∙◌}
 use native.Mathlib.Omega.{arith}
-use Prim.Native.Nat.{◌-◌}
 use Rattle.record.specs.Records.{TraceRecord}
 use Rattle.rules.specs.OneOwnerPerKey.{is_holding}
-use Rattle.history.proofs.Logs.{record_bytes, bytes_length}
+use Rattle.history.proofs.Logs.{record_bytes}
 use Rattle.one_owner_per_key.proofs.Checks.{held_ended, held_holds, held_lacks}
 use Rattle.one_owner_per_key.proofs.held.held_after.Goals as goal
 
@@ -16,11 +14,6 @@ returns-then-k-ended c =
       within = omega arith;
       held = λ ix e. held_ended a.node.0 a.range a.past.now.log.now a.top (c.hold_of-k.ensures.latest ix) e c.if-k-ended.true;
     }
-
-pub is_holding-requires : goal.is_holding-requires
-is_holding-requires c =
-    rw c.record.ensures (bytes_length c.args.past.now.log.now (c.hold_of-k.result - 1)
-    (omega (arith, (bounds c.args.past.now))))
 
 pub returns-then-is_holding : goal.returns-then-is_holding
 returns-then-is_holding c =

@@ -1,12 +1,11 @@
 -- The walk along the chain of node and range leaves out no record that says what is held.
 use Rattle.history.proofs.Pasts.{bounds}
-use Prim.Native.Nat.{◌-◌}
 use mathlib.Core.Path.{refl, ap, ◌∙◌}
 use native.Mathlib.Omega.{arith}
 use borrow.Author.Tests.{leb-true}
 use lib.Dec.{leb}
 use Rattle.record.specs.Records.{TraceRecord}
-use Rattle.history.proofs.Logs.{record_bytes, bytes_length}
+use Rattle.history.proofs.Logs.{record_bytes}
 use Rattle.record.proofs.Booleans.{and_left}
 use Rattle.one_owner_per_key.specs.Numbers.{says_hold}
 use Rattle.one_owner_per_key.proofs.Walks.{walk_first, walk_next, walk_hit, walk_end, two_below, by_hold_lem}
@@ -22,11 +21,6 @@ loop-i-init c =
 
 pub record-requires : goal.record-requires
 record-requires c = omega (arith, (bounds c.args.past.now))
-
-pub says_hold-requires : goal.says_hold-requires
-says_hold-requires c =
-    rw c.record.ensures (bytes_length c.args.past.now.log.now (c.loop-i.i - 1)
-    (omega (arith, (bounds c.args.past.now))))
 
 pub returns-then-i-top : goal.returns-then-i-top
 returns-then-i-top c =
@@ -51,10 +45,9 @@ loop-i-smaller c = omega (arith, c.hold_below-i.ensures.0)
 pub loop-i-preserved : goal.loop-i-preserved
 loop-i-preserved c =
     let l = c.loop-i in
-    let a = c.args in
-    let p = c.requires in (
+    let a = c.args in (
       omega (arith, c.hold_below-i.ensures.0),
-      λ ix. walk_next (by_hold_lem a.past.now.cap a.node.0 a.range) a.past.now.log.now a.top a.past.now.count ix.held p.0.within
+      λ ix. walk_next (by_hold_lem a.past.now.cap a.node.0 a.range) a.past.now.log.now a.top a.past.now.count ix.held a.past.now.within
           c.loop-i-test.true l.invariant.0 (l.invariant.1 ix)
           (c.says_hold.ensures ∙ ap (λ (x : TraceRecord). says_hold a.node.0 a.range x)
           (record_bytes _ _ c.record.ensures)) c.if-i-top.false

@@ -1,6 +1,6 @@
 -- The walk along the chain of node and range leaves out no record that says what is held.
+use Rattle.history.specs.Pasts.{Indexed}
 use Prim.Native.Nat.{◌≤◌}
-use Rattle.history.specs.Logs.{hist}
 use Rattle.history.specs.Buckets.{bucket_by_two}
 use Rattle.one_owner_per_key.specs.Columns.{OwnersIndexed, by_hold}
 use Rattle.one_owner_per_key.specs.Numbers.{says_hold}

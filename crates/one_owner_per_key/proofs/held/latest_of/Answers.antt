@@ -1,13 +1,12 @@
 -- The walk along the node's chain leaves out no record of the node.
 use Rattle.history.proofs.Pasts.{bounds}
-use Prim.Native.Nat.{◌-◌}
 use mathlib.Core.Path.{refl, ap, ◌∙◌}
 use native.Mathlib.Omega.{arith}
 use borrow.Author.Tests.{leb-true}
 use lib.Dec.{leb}
 use Rattle.record.specs.Records.{TraceRecord}
 use Rattle.rules.specs.History.{is_by}
-use Rattle.history.proofs.Logs.{record_bytes, bytes_length}
+use Rattle.history.proofs.Logs.{record_bytes}
 use Rattle.record.proofs.Booleans.{and_left}
 use Rattle.one_owner_per_key.proofs.Walks.{walk_first, walk_next, walk_hit, walk_end, bucket_below, entered_by_node}
 use Rattle.one_owner_per_key.proofs.held.latest_of.Goals as goal
@@ -22,11 +21,6 @@ loop-i-init c =
 
 pub record-requires : goal.record-requires
 record-requires c = omega (arith, (bounds c.args.past.now))
-
-pub is_by-requires : goal.is_by-requires
-is_by-requires c =
-    rw c.record.ensures (bytes_length c.args.past.now.log.now (c.loop-i.i - 1)
-    (omega (arith, (bounds c.args.past.now))))
 
 pub returns-then-i-top : goal.returns-then-i-top
 returns-then-i-top c =
@@ -51,10 +45,9 @@ loop-i-smaller c = omega (arith, c.node_below-i.ensures.0)
 pub loop-i-preserved : goal.loop-i-preserved
 loop-i-preserved c =
     let l = c.loop-i in
-    let a = c.args in
-    let p = c.requires in (
+    let a = c.args in (
       omega (arith, c.node_below-i.ensures.0),
-      λ ix. walk_next (entered_by_node a.past.now.cap a.node.0) a.past.now.log.now a.top a.past.now.count ix.nodes p.0.within
+      λ ix. walk_next (entered_by_node a.past.now.cap a.node.0) a.past.now.log.now a.top a.past.now.count ix.nodes a.past.now.within
           c.loop-i-test.true l.invariant.0 (l.invariant.1 ix)
           (c.is_by.ensures ∙ ap (λ (x : TraceRecord). is_by a.node.0 x)
           (record_bytes _ _ c.record.ensures)) c.if-i-top.false

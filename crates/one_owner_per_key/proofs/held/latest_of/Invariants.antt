@@ -1,7 +1,7 @@
 -- The walk along the node's chain leaves out no record of the node.
+use Rattle.history.specs.Pasts.{Indexed}
 use Prim.Native.Nat.{◌≤◌}
 use Rattle.rules.specs.History.{is_by}
-use Rattle.history.specs.Logs.{hist}
 use Rattle.history.specs.Buckets.{bucket_by}
 use Rattle.one_owner_per_key.specs.Columns.{OwnersIndexed, by_owner}
 use Rattle.one_owner_per_key.proofs.Walks.{Walking}

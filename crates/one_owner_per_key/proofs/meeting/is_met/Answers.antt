@@ -1,11 +1,9 @@
 -- The record found has the span that is held.
 use mathlib.Core.Path.{ap, ◌∙◌}
-use native.Mathlib.Omega.{arith}
-use Prim.Native.Nat.{◌-◌}
 use Rattle.record.specs.Records.{TraceRecord, decode}
 use Rattle.rules.specs.Descriptors.{span_of}
 use Rattle.rules.specs.OneOwnerPerKey.{meets}
-use Rattle.history.proofs.Logs.{record_bytes, bytes_length}
+use Rattle.history.proofs.Logs.{record_bytes}
 use Rattle.one_owner_per_key.proofs.Checks.{met_none, met_some}
 use Rattle.one_owner_per_key.proofs.meeting.is_met.Goals as goal
 
@@ -14,17 +12,6 @@ returns-then-i-eq0 c =
     let a = c.args in
     λ ix e. met_none (meets (span_of a.k (decode a.rec.now))) a.node.0 a.range a.past.now.log.now a.past.now.count
     (c.held_after-i.ensures.held ix e) c.if-i-eq0.true
-
-pub meets-requires : goal.meets-requires
-meets-requires c =
-    let p = c.requires in (
-      p.1.0,
-      (
-        p.1.1,
-        rw c.record.ensures
-            (bytes_length c.args.past.now.log.now (c.held_after-i.result - 1) (omega (arith, p.0))),
-      ),
-    )
 
 pub returns : goal.returns
 returns c =

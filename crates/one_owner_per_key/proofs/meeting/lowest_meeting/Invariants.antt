@@ -1,9 +1,8 @@
 -- Down the list of the ranges newly held, to the node's latest end: what is held is among them.
-use Rattle.history.specs.Pasts.{taken}
+use Rattle.history.specs.Pasts.{taken, Indexed}
 use Prim.Native.Nat.{◌≤◌}
 use Rattle.record.specs.Records.{decode}
 use Rattle.rules.specs.Descriptors.{span_of}
-use Rattle.history.specs.Logs.{hist}
 use Rattle.one_owner_per_key.specs.Columns.{OwnersIndexed}
 use Rattle.one_owner_per_key.specs.Answers.{passes}
 use Rattle.one_owner_per_key.proofs.Meets.{met, Walked}

@@ -34,7 +34,7 @@ returns c =
     noted_marked a.cap (hist a.log.now a.count) (decode a.rec.now)
     c.in-Some.node
     (sym c.node-marked.ensures ∙ c.in-Some.is)
-    (hist_length a.log.now a.count) p.1.0
+    (hist_length a.log.now a.count) p.1
     c.enter_hold.ensures
     c.node_bucket.ensures
     c.enter.ensures
