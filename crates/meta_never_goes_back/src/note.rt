@@ -12,6 +12,7 @@ use crate::cells::name_before;
 use crate::opposed::is_highest;
 use crate::won::is_won;
 use history::chain::put;
+use history::past::Past;
 use history::place::LATEST_NAME;
 
 // The number of the latest name with one more record.

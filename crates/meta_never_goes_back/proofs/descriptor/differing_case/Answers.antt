@@ -11,9 +11,6 @@ returns-then-number-eq0 c = λ k e l. absurd (omega arith)
 pub returns-then-count-number : goal.returns-then-count-number
 returns-then-count-number c = λ k e l. absurd (omega arith)
 
-pub same_named-requires : goal.same_named-requires
-same_named-requires c = (record_length _ _ c.record_at.ensures (omega arith), (LENGTH c rec))
-
 pub returns-then-same_named : goal.returns-then-same_named
 returns-then-same_named c =
     let x = decode c.args.rec.now in

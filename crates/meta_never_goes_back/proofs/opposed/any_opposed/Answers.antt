@@ -7,9 +7,6 @@ use Rattle.meta_never_goes_back.proofs.Naming.{down}
 use Rattle.meta_never_goes_back.proofs.Spared.{passed_first, passed_end, passed_covered, passed_miss}
 use Rattle.meta_never_goes_back.proofs.opposed.any_opposed.Goals as goal
 
-pub skip_surpassed-i-requires : goal.skip_surpassed-i-requires
-skip_surpassed-i-requires c = (omega arith, (omega arith, (omega arith, (omega arith, (LENGTH c rec)))))
-
 pub loop-i-init : goal.loop-i-init
 loop-i-init c = (
   omega arith,
@@ -20,23 +17,14 @@ loop-i-init c = (
 pub record-old-requires : goal.record-old-requires
 record-old-requires c = omega arith
 
-pub does_oppose-requires : goal.does_oppose-requires
-does_oppose-requires c = ((LENGTH c rec), record_length _ _ c.record-old.ensures (omega arith))
-
 pub returns-then-does_oppose : goal.returns-then-does_oppose
 returns-then-does_oppose c = λ m p f. never refl f
-
-pub does_cover-requires : goal.does_cover-requires
-does_cover-requires c = ((LENGTH c rec), record_length _ _ c.record-old.ensures (omega arith))
 
 pub returns-then-does_cover : goal.returns-then-does_cover
 returns-then-does_cover c = λ m p f. passed_covered (c.loop-i.invariant.1 m) (omega arith) c.record-old.ensures c.does_cover.ensures c.if-does_cover.true p
 
 pub name_before-requires-in-loop-i : goal.name_before-requires-in-loop-i
 name_before-requires-in-loop-i c = omega arith
-
-pub skip_surpassed-i-requires-in-loop-i : goal.skip_surpassed-i-requires-in-loop-i
-skip_surpassed-i-requires-in-loop-i c = (omega arith, (omega arith, (omega arith, (omega arith, (LENGTH c rec)))))
 
 pub loop-i-smaller : goal.loop-i-smaller
 loop-i-smaller c = omega arith

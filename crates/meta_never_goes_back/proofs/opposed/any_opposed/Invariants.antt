@@ -1,7 +1,7 @@
 -- The names that are not surpassed are looked at newest first, each led to from the word before the last one's place.
 use Prim.Native.Nat.{◌≤◌}
 use Rattle.record.specs.Records.{decode}
-use Rattle.history.specs.Logs.{hist}
+use Rattle.history.specs.Pasts.{Indexed}
 use Rattle.meta_never_goes_back.specs.Columns.{MetaIndexed}
 use Rattle.meta_never_goes_back.specs.Walk.{Passed}
 use Rattle.meta_never_goes_back.proofs.opposed.any_opposed.Given as goal

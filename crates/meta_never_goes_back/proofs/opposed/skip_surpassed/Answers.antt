@@ -12,12 +12,6 @@ loop-i-init c = (omega arith, λ n l k m w. skips_first w)
 pub record_at-old-requires : goal.record_at-old-requires
 record_at-old-requires c = omega arith
 
-pub b-requires : goal.b-requires
-b-requires c = record_length _ _ c.record_at-old.ensures (omega arith)
-
-pub d-requires : goal.d-requires
-d-requires c = record_length _ _ c.record_at-old.ensures (omega arith)
-
 pub returns-then-not-is_surpassed : goal.returns-then-not-is_surpassed
 returns-then-not-is_surpassed c = (
   omega arith,

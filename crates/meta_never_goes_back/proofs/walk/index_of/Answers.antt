@@ -4,8 +4,5 @@ use Rattle.record.specs.Records.{TraceRecord}
 use Rattle.history.proofs.Logs.{record_bytes, record_length}
 use Rattle.meta_never_goes_back.proofs.walk.index_of.Goals as goal
 
-pub b-requires : goal.b-requires
-b-requires c = record_length _ _ c.record_at.ensures c.requires
-
 pub returns : goal.returns
 returns c = c.b.ensures ∙ ap (λ (x : TraceRecord). x.b) (record_bytes _ _ c.record_at.ensures)

@@ -4,9 +4,6 @@ use Rattle.history.proofs.Logs.{record_length}
 use Rattle.meta_never_goes_back.proofs.Stood.{stands_apart, stands_alone, stands_instead, stands_still}
 use Rattle.meta_never_goes_back.proofs.walk.stands.Goals as goal
 
-pub does_cover-requires : goal.does_cover-requires
-does_cover-requires c = record_length _ _ c.record_at.ensures (omega arith)
-
 pub returns-then-not-does_cover : goal.returns-then-not-does_cover
 returns-then-not-does_cover c = (stands_apart _ _ c.args.best _ c.record_at.ensures c.does_cover.ensures c.if-not-does_cover.true, λ n p q. omega arith)
 

@@ -17,20 +17,11 @@ loop-i-init c = turn_first (omega arith) (omega arith) (record {
       ∙ c.if-not-key_less.false;
 }) c.name_before-i.ensures.0 c.name_before-i.ensures.1
 
-pub key_case-case-requires : goal.key_case-case-requires
-key_case-case-requires c = (omega (arith, c.loop-i.invariant.known, (bounds c.args.past.now)), (LENGTH c rec))
-
 pub stands-standing-requires : goal.stands-standing-requires
 stands-standing-requires c = omega (arith, c.loop-i.invariant.known, c.loop-i.invariant.within, (bounds c.args.past.now))
 
 pub record-old-requires : goal.record-old-requires
 record-old-requires c = omega (arith, c.loop-i.invariant.within, (bounds c.args.past.now))
-
-pub start_of-requires : goal.start_of-requires
-start_of-requires c = (record_length _ _ c.record-old.ensures (omega (arith, c.loop-i.invariant.within, (bounds c.args.past.now))), omega arith)
-
-pub end_of-requires : goal.end_of-requires
-end_of-requires c = (record_length _ _ c.record-old.ensures (omega (arith, c.loop-i.invariant.within, (bounds c.args.past.now))), omega arith)
 
 pub name_before-i-requires-in-loop-i : goal.name_before-i-requires-in-loop-i
 name_before-i-requires-in-loop-i c = omega (arith, c.loop-i.invariant.within, (bounds c.args.past.now))

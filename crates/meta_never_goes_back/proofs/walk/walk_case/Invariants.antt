@@ -1,5 +1,5 @@
 -- Piece by piece: the inner loop finds the name that stands at the cursor and where the piece ends.
-use Rattle.history.specs.Pasts.{taken}
+use Rattle.history.specs.Pasts.{taken, Indexed}
 use mathlib.Core.List.{◌∷◌}
 use Rattle.record.specs.Keys.{key_in}
 use Rattle.record.specs.Records.{decode}
