@@ -12,20 +12,19 @@ ghost use Rattle.splits.specs.Columns.{Known, HalfNoted, Celled, CellsPut, Enter
 ghost use Rattle.splits.specs.Splits.{parent_by};
 ghost use Rattle.history.specs.Pasts.{taken, Indexed};
 
-use history::past::Past;
 use crate::cells::{
     pending_by, recorded_bucket, refused_by, registering_by, restated_by, server_by, split_bucket,
 };
 use crate::split::{parent_of, registers, uses_up};
 use history::chain::{enter, put};
+use history::past::Past;
 use history::place::{
     PENDING_AT, RECORDED_HEADS, RECORDED_LINKS, REFUSED_AT, REGISTERED_BY, RESTATED_AT, SERVER_AT,
     SPLIT_HEADS, SPLIT_LINKS,
 };
 use one_owner_per_key::held::latest_of;
-use record::Record;
-use record::field;
 use record::named::NodeId;
+use record::{Record, field};
 
 // What is written of a record: the cells; the record that names the right range of the split it registers; whether it
 // records an index.
@@ -200,7 +199,15 @@ pub fn note(log: &[u8], work: &mut [u64], count: usize, cap: usize, rec: &Record
     requires { Bounds log.now work.old count cap × (count < cap) }
     ensures { HalfNoted cap (hist log.now count) (decode rec.now) work.old work.new }
 {
-    let cells = cells_of(&Past { log, work, count, cap }, rec);
+    let cells = cells_of(
+        &Past {
+            log,
+            work,
+            count,
+            cap,
+        },
+        rec,
+    );
     let named = cells.named;
     let records = cells.records;
     put_cells(work, cap, count, cells);

@@ -12,12 +12,11 @@ ghost use Rattle.splits.specs.Columns.{Known};
 ghost use Rattle.splits.specs.Splits.{parent_by, right_by};
 ghost use Rattle.history.specs.Pasts.{taken, Indexed};
 
-use history::past::Past;
 use crate::cells::{pending_by, split_below, split_top};
 use history::log::record_at;
-use record::Record;
-use record::field;
+use history::past::Past;
 use record::named::{NodeId, ServerId};
+use record::{Record, field};
 
 // Whether a record is a RaftApply that took.
 pub fn has_taken(rec: &Record) -> bool

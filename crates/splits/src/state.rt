@@ -6,8 +6,8 @@ ghost use Rattle.history.specs.Logs.{hist};
 ghost use Rattle.splits.specs.Columns.{Known};
 ghost use Rattle.history.specs.Pasts.{Indexed};
 
-use history::past::Past;
 use crate::cells::{restated_by, server_by};
+use history::past::Past;
 use one_owner_per_key::held::latest_of;
 use record::named::{NodeId, ServerId};
 

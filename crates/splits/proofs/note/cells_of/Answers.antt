@@ -38,12 +38,6 @@ registered_with-requires-2 c = (
   ),
 )
 
-pub records_with-requires : goal.records_with-requires
-records_with-requires c = (
-  c.args.past.now.work_holds,
-  (omega (arith, c.latest_of-last.ensures.within, (bounds c.args.past.now)), (c.args.past.now.small, (LENGTH c rec))),
-)
-
 pub returns : goal.returns
 returns c =
     let a = c.args in

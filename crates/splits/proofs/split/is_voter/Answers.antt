@@ -9,9 +9,6 @@ use Rattle.splits.proofs.split.is_voter.Goals as goal
 pub loop-i-init : goal.loop-i-init
 loop-i-init c = (omega arith, refl)
 
-pub voter-requires : goal.voter-requires
-voter-requires c = ((LENGTH c rec), rw (← c.voter_count-n.ensures.0) c.loop-i-test.true)
-
 pub returns-then-voter-server : goal.returns-then-voter-server
 returns-then-voter-server c =
     any_found (λ v. eqb v c.args.server.0) _ c.loop-i.i

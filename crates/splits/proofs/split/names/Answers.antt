@@ -2,10 +2,9 @@
 use Rattle.history.proofs.Pasts.{bounds}
 use mathlib.Core.Path.{ap, ◌∙◌}
 use native.Mathlib.Omega.{arith}
-use Prim.Native.Nat.{◌-◌}
 use Rattle.record.specs.Records.{TraceRecord, decode}
 use Rattle.rules.specs.RightHalf.{pending_by, uses_up}
-use Rattle.history.proofs.Logs.{record_bytes, bytes_length}
+use Rattle.history.proofs.Logs.{record_bytes}
 use Rattle.splits.proofs.Splits.{names_itself, names_none, names_used, names_other}
 use Rattle.splits.proofs.States.{pendingly_is}
 use Rattle.splits.proofs.split.names.Goals as goal
@@ -32,14 +31,6 @@ returns-then-k-eq0 c =
 
 pub record-requires : goal.record-requires
 record-requires c = omega (arith, (bounds c.args.past.now), c.pending_by-k.ensures.0)
-
-pub uses_up-requires : goal.uses_up-requires
-uses_up-requires c = (
-  (LENGTH c rec),
-  rw c.record.ensures
-      (bytes_length c.args.past.now.log.now (c.pending_by-k.result - 1)
-      (omega (arith, (bounds c.args.past.now), c.pending_by-k.ensures.0))),
-)
 
 pub returns-then-uses_up : goal.returns-then-uses_up
 returns-then-uses_up c =

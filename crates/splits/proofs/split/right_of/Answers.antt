@@ -1,10 +1,9 @@
 -- By the kind; a number out of range is not asked for.
 use mathlib.Core.Path.{sym, ap, ◌∙◌}
 use native.Mathlib.Omega.{arith}
-use Prim.Native.Nat.{◌-◌}
 use borrow.Author.Tests.{eq-eqb, ne_eqb}
 use Rattle.record.specs.Records.{TraceRecord}
-use Rattle.history.proofs.Logs.{record_bytes, bytes_length}
+use Rattle.history.proofs.Logs.{record_bytes}
 use Rattle.splits.proofs.Splits.{out_of_range, or_off}
 use Rattle.splits.proofs.split.right_of.Goals as goal
 
@@ -24,17 +23,6 @@ overflow_sub-named c =
 pub record_at-requires : goal.record_at-requires
 record_at-requires c =
     omega (arith, or_off c.args.named c.args.count c.if-named-count.false)
-
-pub c-requires : goal.c-requires
-c-requires c =
-    rw c.record_at.ensures (bytes_length c.args.log.now
-    (c.args.named - 1)
-    (omega (
-      arith,
-      c.requires,
-      or_off c.args.named
-          c.args.count c.if-named-count.false,
-    )))
 
 pub returns : goal.returns
 returns c =

@@ -7,7 +7,7 @@ use Prim.Native.Nat.{◌-◌}
 use borrow.Author.Tests.{leb-true}
 use lib.Dec.{eqb, leb}
 use Rattle.record.specs.Records.{TraceRecord}
-use Rattle.history.proofs.Logs.{record_bytes, bytes_length}
+use Rattle.history.proofs.Logs.{record_bytes}
 use Rattle.record.proofs.Booleans.{and_left}
 use Rattle.one_owner_per_key.proofs.Walks.{walk_first, walk_next, walk_hit, walk_end, two_below}
 use Rattle.splits.specs.Splits.{parent_by}
@@ -25,11 +25,6 @@ loop-i-init c =
 
 pub record-requires : goal.record-requires
 record-requires c = omega (arith, (bounds c.args.past.now))
-
-pub is_split-requires : goal.is_split-requires
-is_split-requires c =
-    rw c.record.ensures (bytes_length c.args.past.now.log.now (c.loop-i.i - 1)
-    (omega (arith, (bounds c.args.past.now))))
 
 pub returns-then-i-top : goal.returns-then-i-top
 returns-then-i-top c =

@@ -1,6 +1,6 @@
 -- The walk along the chain of parent and index leaves out no record that registers that split.
+use Rattle.history.specs.Pasts.{Indexed}
 use Prim.Native.Nat.{◌≤◌}
-use Rattle.history.specs.Logs.{hist}
 use Rattle.one_owner_per_key.proofs.Walks.{Walking}
 use Rattle.splits.specs.Numbers.{registers_as}
 use Rattle.splits.specs.Columns.{Known, by_split, split_bucket}

@@ -5,5 +5,4 @@ use Rattle.splits.proofs.state.is_restated.Goals as goal
 pub returns : goal.returns
 returns c =
     let a = c.args in
-    let p = c.requires in
-    λ ix. mark_is a.past.now.log.now a.node.0 p.0.within p.1 (c.latest_of-last.ensures.latest ix.0) ix.1.restated c.restated_by.ensures.1
+    λ ix. mark_is a.past.now.log.now a.node.0 a.past.now.within c.requires (c.latest_of-last.ensures.latest ix.0) ix.1.restated c.restated_by.ensures.1

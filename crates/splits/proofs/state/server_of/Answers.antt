@@ -6,6 +6,5 @@ use Rattle.splits.proofs.state.server_of.Goals as goal
 pub returns : goal.returns
 returns c =
     let a = c.args in
-    let p = c.requires in
-    λ ix. same_server _ _ (server_is a.past.now.log.now a.node.0 ix.1.servers p.0.within p.1 (c.latest_of-last.ensures.latest ix.0)
+    λ ix. same_server _ _ (server_is a.past.now.log.now a.node.0 ix.1.servers a.past.now.within c.requires (c.latest_of-last.ensures.latest ix.0)
     c.server_by.ensures)
