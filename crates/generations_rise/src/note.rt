@@ -11,6 +11,7 @@ use crate::key::bucket_by_key;
 use crate::write::{Written, counts_as};
 use firsts::note::enter_write;
 use history::chain::{enter, put};
+use history::past::Past;
 use history::place::{KEY_HEADS, KEY_LINKS, WRITTEN_AT};
 use history::span::start_of;
 

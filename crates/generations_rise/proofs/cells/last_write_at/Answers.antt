@@ -21,9 +21,6 @@ loop-i-init c =
           c.link-i.ensures.1,
     )
 
-pub has_key-requires : goal.has_key-requires
-has_key-requires c = record_length _ _ c.record.ensures (omega arith)
-
 pub returns-then-has_key : goal.returns-then-has_key
 returns-then-has_key c =
     let a = c.args in (

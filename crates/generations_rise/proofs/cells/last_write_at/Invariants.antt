@@ -1,5 +1,5 @@
 -- A walk along the chain of the key's bucket: the records passed over have no write of the key.
-use Rattle.history.specs.Pasts.{taken}
+use Rattle.history.specs.Pasts.{taken, Indexed}
 use Prim.Native.Nat.{◌≤◌}
 use Rattle.record.specs.Keys.{key_in}
 use Rattle.history.specs.Logs.{hist}

@@ -22,10 +22,6 @@ pub record-requires : goal.record-requires
 record-requires c =
     omega (arith, c.last_write_at-n.ensures.0, c.args.past.now.log_holds)
 
-pub a-by-requires : goal.a-by-requires
-a-by-requires c =
-    record_length _ _ c.record.ensures (omega (arith, c.last_write_at-n.ensures.0, c.args.past.now.log_holds))
-
 pub returns-then-is_against : goal.returns-then-is_against
 returns-then-is_against c =
     let a = c.args in

@@ -7,9 +7,6 @@ use Rattle.generations_rise.proofs.write.generation_at.Goals as goal
 pub returns-then-n-eq0 : goal.returns-then-n-eq0
 returns-then-n-eq0 c = found_zero _ _ c.if-n-eq0.true
 
-pub d-requires : goal.d-requires
-d-requires c = record_length _ _ c.record_at.ensures (omega arith)
-
 pub returns-then-at-count : goal.returns-then-at-count
 returns-then-at-count c = found_read _ _ c.if-n-eq0.false c.if-at-count.true c.record_at.ensures c.d.ensures
 
