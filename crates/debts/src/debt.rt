@@ -7,9 +7,9 @@ ghost use Rattle.splits.specs.Columns.{Known};
 ghost use Rattle.debts.specs.Debts.{placed_split, split_at, Numbered, is_right, has_voter, is_covered, applied_split, covered_split, first_split, is_above};
 ghost use Rattle.history.specs.Pasts.{taken, Indexed};
 
-use history::past::Past;
 use crate::owed::owes_first;
 use history::log::record_at;
+use history::past::Past;
 use one_owner_per_key::held::is_by;
 use record::field;
 use record::named::{NodeId, ServerId};
@@ -83,7 +83,14 @@ fn is_above(log: &[u8], count: usize, t: usize, best: usize) -> bool
 }
 
 // The greater of the best so far and the record at place t.
-fn greater_split(past: &Past, at: usize, t: usize, right: u64, server: ServerId, best: usize) -> usize
+fn greater_split(
+    past: &Past,
+    at: usize,
+    t: usize,
+    right: u64,
+    server: ServerId,
+    best: usize,
+) -> usize
     requires { (at < past.now.count) × ((t < past.now.count) × (best ≤ past.now.count)) }
     ensures within { result ≤ max best (t + 1) }
     ensures is { Indexed Known past.now → result ≡ cond (is_above past.now.log.now t best && holds (is_covered (record_at past.now.log.now at) right server.0) (placed_split past.now.log.now t)) (t + 1) best }

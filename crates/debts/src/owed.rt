@@ -13,9 +13,8 @@ ghost use Rattle.history.specs.Pasts.{taken, Indexed};
 use history::past::Past;
 use one_owner_per_key::cells::{hold_below, hold_top};
 use one_owner_per_key::held::{is_by, latest_of};
-use record::Record;
-use record::field;
 use record::named::{NodeId, ServerId};
+use record::{Record, field};
 use splits::cells::{mark_at, refused_by, restated_by, server_at, server_by};
 use splits::split::{has_taken, is_voter, parent_of};
 
@@ -50,7 +49,14 @@ fn is_asked_of(rec: &Record, mark: u64, node: NodeId, range: u64, asked: Asked) 
 }
 
 // The number of the latest such record of the first top, where it is above a floor, else 0.
-pub fn latest_asked(past: &Past, top: usize, floor: usize, node: NodeId, range: u64, asked: Asked) -> usize
+pub fn latest_asked(
+    past: &Past,
+    top: usize,
+    floor: usize,
+    node: NodeId,
+    range: u64,
+    asked: Asked,
+) -> usize
     requires { top ≤ past.now.count }
     ensures within { result ≤ top }
     ensures latest { Indexed Known past.now → result ≡ above floor (latest_number (asks asked node.0 range) (hist past.now.log.now top)) }
@@ -85,7 +91,15 @@ fn is_applying(rec: &Record, mark: u64, index: u64) -> bool
 
 // Whether a node comes to owe at a record by the split of a range at an index that another record registered; server:
 // what its node is there.
-fn is_coming(rec: &Record, mark: u64, server: u64, node: NodeId, range: u64, index: u64, split: &Record) -> bool
+fn is_coming(
+    rec: &Record,
+    mark: u64,
+    server: u64,
+    node: NodeId,
+    range: u64,
+    index: u64,
+    split: &Record,
+) -> bool
     ensures { result ≡ (is_by node.0 (decode rec.now) && eqb (decode rec.now).a range && applying index (decode rec.now) (not (eqb mark 0)) && any_of (λ v. eqb v server) (decode split.now).voters) }
 {
     if is_by(rec, node) & (field::a(rec) == range) & is_applying(rec, mark, index) {
@@ -95,7 +109,14 @@ fn is_coming(rec: &Record, mark: u64, server: u64, node: NodeId, range: u64, ind
 }
 
 // The number of the latest record above a floor at which a node comes to owe by its own application of a split of a range.
-fn latest_coming(past: &Past, floor: usize, node: NodeId, range: u64, index: u64, split: &Record) -> usize
+fn latest_coming(
+    past: &Past,
+    floor: usize,
+    node: NodeId,
+    range: u64,
+    index: u64,
+    split: &Record,
+) -> usize
     ensures { Indexed Known past.now → result ≡ above floor (latest_number (comes node.0 range index (decode split.now).voters) (taken past.now)) }
 {
     let mut i = hold_top(past.work, past.cap, past.count, node, range);
@@ -121,26 +142,23 @@ fn latest_coming(past: &Past, floor: usize, node: NodeId, range: u64, index: u64
 pub fn cancel_of(past: &Past, node: NodeId, right: u64, refused: usize) -> usize
     ensures { Indexed Known past.now → refused ≡ refused_number node.0 (taken past.now) → result ≡ cancel_number node.0 right (taken past.now) }
 {
-    let removed = latest_asked(past, past.count,
-        refused,
-        node,
-        right,
-        Asked::Removed,
-    );
+    let removed = latest_asked(past, past.count, refused, node, right, Asked::Removed);
     if removed == 0 { refused } else { removed }
 }
 
 // Whether the index that a node recorded for a range reaches an index; refused: its latest refusal as of the first top records.
-pub fn is_reached(past: &Past, top: usize, refused: usize, node: NodeId, range: u64, index: u64) -> bool
+pub fn is_reached(
+    past: &Past,
+    top: usize,
+    refused: usize,
+    node: NodeId,
+    range: u64,
+    index: u64,
+) -> bool
     requires { top ≤ past.now.count }
     ensures { Indexed Known past.now → refused ≡ refused_number node.0 (hist past.now.log.now top) → result ≡ reached past.now.log.now top node.0 range index }
 {
-    let k = latest_asked(past, top,
-        refused,
-        node,
-        range,
-        Asked::Recording,
-    );
+    let k = latest_asked(past, top, refused, node, range, Asked::Recording);
     if k == 0 {
         return false;
     }
@@ -178,13 +196,7 @@ fn is_applied_first(past: &Past, t: usize, node: NodeId, last: usize, rec: &Reco
     if is_reached(past, t, refused, node, parent, index) {
         return true;
     }
-    if latest_asked(past, t,
-        refused,
-        node,
-        parent,
-        Asked::Traced(index),
-    ) != 0
-    {
+    if latest_asked(past, t, refused, node, parent, Asked::Traced(index)) != 0 {
         return true;
     }
     is_reaching(rec, node, restated_by(past.work, past.cap, last))

@@ -1,20 +1,9 @@
 -- The one registered split of its range and index.
-use Rattle.history.proofs.Pasts.{bounds}
 use mathlib.Core.Path.{◌∙◌}
 use native.Mathlib.Omega.{arith}
-use Rattle.history.proofs.Logs.{record_bytes, record_length}
+use Rattle.history.proofs.Logs.{record_bytes}
 use Rattle.debts.proofs.Debts.{applied_none, applied_some, applied_not}
 use Rattle.debts.proofs.debt.applied_split.Goals as goal
-
-pub a-requires : goal.a-requires
-a-requires c =
-    record_length c.args.past.now.log.now c.args.at c.record-rec.ensures
-    (omega (arith, (bounds c.args.past.now), c.requires))
-
-pub b-requires : goal.b-requires
-b-requires c =
-    record_length c.args.past.now.log.now c.args.at c.record-rec.ensures
-    (omega (arith, (bounds c.args.past.now), c.requires))
 
 pub returns-then-k-eq0 : goal.returns-then-k-eq0
 returns-then-k-eq0 c =

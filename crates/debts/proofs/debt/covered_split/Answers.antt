@@ -1,5 +1,4 @@
 -- All registering records from i on are taken over.
-use Rattle.history.proofs.Pasts.{bounds}
 use mathlib.Core.Path.{◌∙◌}
 use native.Mathlib.Omega.{arith}
 use Prim.Native.Nat.{◌+◌, ◌-◌}
@@ -7,10 +6,6 @@ use Rattle.history.specs.Logs.{record_at}
 use Rattle.splits.proofs.Noting.{registering_read}
 use Rattle.debts.proofs.Debts.{cover_first, cover_next, cover_end}
 use Rattle.debts.proofs.debt.covered_split.Goals as goal
-
-pub registering_by-i-requires : goal.registering_by-i-requires
-registering_by-i-requires c =
-    (c.args.past.now.work_holds, (omega (arith, (bounds c.args.past.now), c.requires), c.args.past.now.small))
 
 pub loop-i-init : goal.loop-i-init
 loop-i-init c =
@@ -20,32 +15,13 @@ loop-i-init c =
       (
         omega arith,
         λ ix. cover_first a.past.now.log.now (a.at + 1) (record_at a.past.now.log.now a.at) a.right a.server.0
-            (c.registering_by-i.ensures.1 ∙ registering_read a.past.now.log.now ix.1.registered p.0.within p.0.small (a.at + 1)
-            (omega (arith, p.1))),
+            (c.registering_by-i.ensures.1 ∙ registering_read a.past.now.log.now ix.1.registered a.past.now.within a.past.now.small (a.at + 1)
+            (omega (arith, p))),
       ),
     )
 
 pub overflow_sub-t : goal.overflow_sub-t
 overflow_sub-t c = omega arith
-
-pub greater_split-best-requires : goal.greater_split-best-requires
-greater_split-best-requires c = (
-  (bounds c.args.past.now),
-  (
-    c.requires,
-    (
-      omega (arith, c.requires, c.loop-i.invariant.0),
-      omega
-          (arith, c.requires, c.loop-i.invariant.1.0),
-    ),
-  ),
-)
-
-pub registering_by-i-requires-in-loop-i : goal.registering_by-i-requires-in-loop-i
-registering_by-i-requires-in-loop-i c = (
-  c.args.past.now.work_holds,
-  (omega (arith, (bounds c.args.past.now), c.requires, c.loop-i.invariant.0), c.args.past.now.small),
-)
 
 pub loop-i-smaller : goal.loop-i-smaller
 loop-i-smaller c = omega (arith, c.registering_by-i-in-loop-i.ensures.0)
@@ -60,8 +36,8 @@ loop-i-preserved c =
         omega (arith, c.greater_split-best.ensures.within, l.invariant.0, l.invariant.1.0),
         λ ix. cover_next a.past.now.log.now (a.at + 1) (record_at a.past.now.log.now a.at) a.right a.server.0 c.loop-i-test.true
             l.invariant.0 (l.invariant.1.1 ix)
-            (c.registering_by-i-in-loop-i.ensures.1 ∙ registering_read a.past.now.log.now ix.1.registered p.0.within p.0.small (l.i - 1)
-            (omega (arith, p.1, l.invariant.0)))
+            (c.registering_by-i-in-loop-i.ensures.1 ∙ registering_read a.past.now.log.now ix.1.registered a.past.now.within a.past.now.small (l.i - 1)
+            (omega (arith, p, l.invariant.0)))
             (c.greater_split-best.ensures.is ix),
       ),
     )

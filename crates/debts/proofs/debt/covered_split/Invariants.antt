@@ -1,6 +1,7 @@
 -- All registering records from i on are taken over.
+use Rattle.history.specs.Pasts.{Indexed}
 use Prim.Native.Nat.{◌+◌, ◌≤◌}
-use Rattle.history.specs.Logs.{hist, record_at}
+use Rattle.history.specs.Logs.{record_at}
 use Rattle.splits.specs.Columns.{Known}
 use Rattle.debts.proofs.Debts.{Covering}
 use Rattle.debts.proofs.debt.covered_split.Given as goal

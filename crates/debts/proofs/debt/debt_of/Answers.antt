@@ -1,14 +1,10 @@
 -- What is owed after all records was owed after i.
-use Rattle.history.proofs.Pasts.{bounds}
 use native.Mathlib.Omega.{arith}
 use Rattle.debts.proofs.Debts.{owes_next, owes_found, owes_end}
 use Rattle.debts.proofs.debt.debt_of.Goals as goal
 
 pub loop-i-init : goal.loop-i-init
 loop-i-init c = (omega arith, λ ix s e. e)
-
-pub debt_at-k-requires : goal.debt_at-k-requires
-debt_at-k-requires c = ((bounds c.args.past.now), omega (arith, c.loop-i.invariant.0))
 
 pub returns-then-k-ne0 : goal.returns-then-k-ne0
 returns-then-k-ne0 c =

@@ -1,6 +1,6 @@
 -- What is owed after all records was owed after i.
+use Rattle.history.specs.Pasts.{Indexed}
 use Prim.Native.Nat.{◌≤◌}
-use Rattle.history.specs.Logs.{hist}
 use Rattle.splits.specs.Columns.{Known}
 use Rattle.debts.proofs.Debts.{Owes}
 use Rattle.debts.proofs.debt.debt_of.Given as goal

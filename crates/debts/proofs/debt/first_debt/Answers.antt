@@ -1,22 +1,10 @@
 -- The record itself, where the node comes to owe by what it registers.
-use Rattle.history.proofs.Pasts.{bounds}
 use mathlib.Core.Path.{sym, ap, ◌∙◌}
 use native.Mathlib.Omega.{arith}
-use Rattle.history.proofs.Logs.{record_bytes, record_length}
+use Rattle.history.proofs.Logs.{record_bytes}
 use Rattle.debts.specs.Walk.{owes_first}
 use Rattle.debts.proofs.Debts.{first_some, first_other, first_not}
 use Rattle.debts.proofs.debt.first_debt.Goals as goal
-
-pub owes_first-requires : goal.owes_first-requires
-owes_first-requires c = (
-  (bounds c.args.past.now),
-  (
-    omega (arith, c.requires),
-    record_length c.args.past.now.log.now
-        c.args.at c.record.ensures
-        (omega (arith, (bounds c.args.past.now), c.requires)),
-  ),
-)
 
 pub returns-then-owes_first : goal.returns-then-owes_first
 returns-then-owes_first c =

@@ -1,36 +1,11 @@
 -- By parent and index, then by the right range and the voters.
-use Rattle.history.proofs.Pasts.{bounds}
 use mathlib.Core.Path.{ap, ◌∙◌}
-use native.Mathlib.Omega.{arith}
 use Rattle.record.specs.Records.{TraceRecord}
 use Rattle.history.specs.Logs.{record_at}
-use Rattle.history.proofs.Logs.{record_bytes, record_length}
+use Rattle.history.proofs.Logs.{record_bytes}
 use Rattle.splits.specs.Splits.{parent_by}
 use Rattle.debts.proofs.Debts.{covered_some, covered_none}
 use Rattle.debts.proofs.debt.is_covered.Goals as goal
-
-pub parent_of-requires : goal.parent_of-requires
-parent_of-requires c =
-    record_length c.args.past.now.log.now c.args.t c.record-split.ensures
-    (omega (arith, (bounds c.args.past.now), c.requires.1))
-
-pub a-requires : goal.a-requires
-a-requires c =
-    record_length c.args.past.now.log.now c.args.at
-    c.record-rec.ensures (omega
-    (arith, (bounds c.args.past.now), c.requires.0))
-
-pub b-requires : goal.b-requires
-b-requires c =
-    record_length c.args.past.now.log.now c.args.t
-    c.record-split.ensures (omega
-    (arith, (bounds c.args.past.now), c.requires.1))
-
-pub c-requires : goal.c-requires
-c-requires c =
-    record_length c.args.past.now.log.now
-    c.args.at c.record-rec.ensures
-    (omega (arith, (bounds c.args.past.now), c.requires.0))
 
 pub returns-then-parent_of-a : goal.returns-then-parent_of-a
 returns-then-parent_of-a c =

@@ -1,11 +1,10 @@
 -- By the record that names its right range.
-use Rattle.history.proofs.Pasts.{bounds}
 use mathlib.Core.Path.{refl, sym, ap, ◌∙◌}
 use native.Mathlib.Omega.{arith}
 use Rattle.record.specs.Records.{TraceRecord}
 use Rattle.rules.specs.History.{is_kind}
 use Rattle.history.specs.Logs.{record_at}
-use Rattle.history.proofs.Logs.{record_bytes, record_length}
+use Rattle.history.proofs.Logs.{record_bytes}
 use Rattle.splits.specs.Splits.{right_by}
 use Rattle.splits.proofs.Noting.{named_read}
 use Rattle.splits.proofs.Registered.{range_of, right_range}
@@ -17,15 +16,7 @@ returns-then-named-eq0 c =
     let a = c.args in
     let p = c.requires in
     λ ix. right_none a.past.now.log.now a.t a.right
-    (c.named_by-named.ensures ∙ named_read a.past.now.log.now ix.1.registered p.0.within p.0.small a.t p.1) c.if-named-eq0.true
-
-pub right_of-requires : goal.right_of-requires
-right_of-requires c = (
-  c.args.past.now.log_holds,
-  record_length c.args.past.now.log.now
-      c.args.t c.record.ensures
-      (omega (arith, (bounds c.args.past.now), c.requires)),
-)
+    (c.named_by-named.ensures ∙ named_read a.past.now.log.now ix.1.registered a.past.now.within a.past.now.small a.t p) c.if-named-eq0.true
 
 pub returns : goal.returns
 returns c =
@@ -33,8 +24,8 @@ returns c =
     let p = c.requires in
     let y = record_bytes a.past.now.log.now a.t c.record.ensures in
     λ ix.
-    let m = c.named_by-named.ensures ∙ named_read a.past.now.log.now ix.1.registered p.0.within p.0.small a.t p.1 in
+    let m = c.named_by-named.ensures ∙ named_read a.past.now.log.now ix.1.registered a.past.now.within a.past.now.small a.t p in
     right_some a.past.now.log.now a.t a.right m c.if-named-eq0.false
-    (c.right_of.ensures (λ k. range_of a.past.now.log.now a.t a.past.now.count (omega (arith, p.1)) refl
+    (c.right_of.ensures (λ k. range_of a.past.now.log.now a.t a.past.now.count (omega (arith, p)) refl
     (right_range a.past.now.log.now a.t (record_at a.past.now.log.now a.t) m c.if-named-eq0.false (ap (λ (z : TraceRecord). is_kind 1 z) (sym y) ∙ k)))
     ∙ ap (λ (z : TraceRecord). right_by a.past.now.log.now z c.named_by-named.result) y)

@@ -1,18 +1,11 @@
 -- A voter of the record is one of the split that it registers.
-use Rattle.history.proofs.Pasts.{bounds}
 use mathlib.Core.Path.{ap, ◌∙◌}
-use native.Mathlib.Omega.{arith}
 use lib.Dec.{eqb}
 use Rattle.record.specs.Records.{TraceRecord}
 use Rattle.rules.specs.History.{any_of}
-use Rattle.history.proofs.Logs.{record_bytes, record_length}
+use Rattle.history.proofs.Logs.{record_bytes}
 use Rattle.debts.proofs.Debts.{voted_some, voted_none}
 use Rattle.debts.proofs.debt.is_voted.Goals as goal
-
-pub is_voter-requires : goal.is_voter-requires
-is_voter-requires c =
-    record_length c.args.past.now.log.now c.args.t c.record.ensures
-    (omega (arith, (bounds c.args.past.now), c.requires))
 
 pub returns-then-is_right : goal.returns-then-is_right
 returns-then-is_right c =

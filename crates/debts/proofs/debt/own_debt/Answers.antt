@@ -1,5 +1,4 @@
 -- By the kind of the record, where it is the node's own.
-use Rattle.history.proofs.Pasts.{bounds}
 use mathlib.Core.Path.{sym, ap, ◌∙◌}
 use native.Mathlib.Omega.{arith}
 use Rattle.record.specs.declared.named.ApplyEffect.TheVariants.{Took}
@@ -7,14 +6,9 @@ use Rattle.record.specs.Records.{TraceRecord}
 use Rattle.rules.specs.History.{is_by}
 use Rattle.rules.specs.GenerationsRise.{has_effect}
 use Rattle.history.specs.Logs.{record_at}
-use Rattle.history.proofs.Logs.{record_bytes, record_length}
+use Rattle.history.proofs.Logs.{record_bytes}
 use Rattle.debts.proofs.Debts.{applies_test, records_test, own_other, own_applied, own_neither, own_covered}
 use Rattle.debts.proofs.debt.own_debt.Goals as goal
-
-pub is_by-requires : goal.is_by-requires
-is_by-requires c =
-    record_length c.args.past.now.log.now c.args.at c.record-rec.ensures
-    (omega (arith, (bounds c.args.past.now), c.requires))
 
 pub returns-then-not-is_by : goal.returns-then-not-is_by
 returns-then-not-is_by c =
@@ -25,18 +19,6 @@ returns-then-not-is_by c =
       is = λ ix. own_other a.past.now.log.now a.at a.node.0 a.right
           (sym (c.is_by.ensures ∙ ap (λ (z : TraceRecord). is_by a.node.0 z) y) ∙ c.if-not-is_by.true);
     }
-
-pub kind-requires : goal.kind-requires
-kind-requires c =
-    record_length c.args.past.now.log.now c.args.at
-    c.record-rec.ensures
-    (omega (arith, (bounds c.args.past.now), c.requires))
-
-pub has_taken-requires : goal.has_taken-requires
-has_taken-requires c =
-    record_length c.args.past.now.log.now
-    c.args.at c.record-rec.ensures
-    (omega (arith, (bounds c.args.past.now), c.requires))
 
 pub returns-then-kind-has_taken : goal.returns-then-kind-has_taken
 returns-then-kind-has_taken c =
@@ -53,13 +35,6 @@ returns-then-kind-has_taken c =
       is = λ ix. own_applied a.past.now.log.now a.at a.node.0 a.right b t (c.server_of-server.ensures ix)
           (c.applied_split.ensures.is ix);
     }
-
-pub kind-requires-2 : goal.kind-requires-2
-kind-requires-2 c =
-    record_length c.args.past.now.log.now
-    c.args.at
-    c.record-rec.ensures
-    (omega (arith, (bounds c.args.past.now), c.requires))
 
 pub returns-then-kind-is_restated : goal.returns-then-kind-is_restated
 returns-then-kind-is_restated c =

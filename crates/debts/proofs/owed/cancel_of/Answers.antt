@@ -1,11 +1,6 @@
 -- The later of the latest removal and the latest refusal.
-use Rattle.history.proofs.Pasts.{bounds}
-use native.Mathlib.Omega.{arith}
 use Rattle.debts.proofs.Comings.{cancel_refused, cancel_removed}
 use Rattle.debts.proofs.owed.cancel_of.Goals as goal
-
-pub latest_asked-removed-requires : goal.latest_asked-removed-requires
-latest_asked-removed-requires c = ((bounds c.args.past.now), omega arith)
 
 pub returns-then-removed-eq0 : goal.returns-then-removed-eq0
 returns-then-removed-eq0 c =

@@ -9,9 +9,6 @@ returns-then-is_by c =
     c.args in λ ix. part_own a.past.now.log.now a.top a.node.0 (decode a.rec.now)
     c.is_by.ensures c.if-is_by.true
 
-pub latest_asked-requires : goal.latest_asked-requires
-latest_asked-requires c = let p = c.requires in (p.0, p.1.0)
-
 pub returns : goal.returns
 returns c =
     let a = c.args in

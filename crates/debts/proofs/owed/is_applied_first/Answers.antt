@@ -1,19 +1,10 @@
 -- By its recorded index, by its RangeSplit, or by the record itself.
-use Rattle.history.proofs.Pasts.{bounds}
 use mathlib.Core.Path.{sym, ap, ◌∙◌}
-use native.Mathlib.Omega.{arith}
 use mathlib.Core.Bool.{not, not-not}
 use Rattle.record.specs.Records.{decode}
 use Rattle.splits.proofs.States.{refused_is, mark_is}
 use Rattle.debts.proofs.Comings.{first_reached, first_traced, first_itself}
 use Rattle.debts.proofs.owed.is_applied_first.Goals as goal
-
-pub refused_by-refused-requires : goal.refused_by-refused-requires
-refused_by-refused-requires c =
-    (c.args.past.now.work_holds, (omega (arith, (bounds c.args.past.now)), c.args.past.now.small))
-
-pub is_reached-requires : goal.is_reached-requires
-is_reached-requires c = ((bounds c.args.past.now), c.requires.0)
 
 pub returns-then-is_reached : goal.returns-then-is_reached
 returns-then-is_reached c =
@@ -21,12 +12,8 @@ returns-then-is_reached c =
     let p = c.requires in
     λ ix e. first_reached a.past.now.log.now a.t a.node.0 (decode a.rec.now) c.parent_of-parent.ensures
     c.b-index.ensures (c.is_reached.ensures ix
-    (refused_is a.past.now.log.now a.node.0 p.0.within p.1.0 e ix.1.refused c.refused_by-refused.ensures.1))
+    (refused_is a.past.now.log.now a.node.0 a.past.now.within p.0 e ix.1.refused c.refused_by-refused.ensures.1))
     c.if-is_reached.true
-
-pub latest_asked-requires : goal.latest_asked-requires
-latest_asked-requires c =
-    ((bounds c.args.past.now), c.requires.0)
 
 pub returns-then-latest_asked-ne0 : goal.returns-then-latest_asked-ne0
 returns-then-latest_asked-ne0 c =
@@ -34,17 +21,11 @@ returns-then-latest_asked-ne0 c =
     let p = c.requires in
     λ ix e.
     let r =
-    (refused_is a.past.now.log.now a.node.0 p.0.within p.1.0 e ix.1.refused
+    (refused_is a.past.now.log.now a.node.0 a.past.now.within p.0 e ix.1.refused
     c.refused_by-refused.ensures.1) in
     first_traced a.past.now.log.now a.t a.node.0 (decode a.rec.now) c.parent_of-parent.ensures
     c.b-index.ensures (c.is_reached.ensures ix r) c.if-is_reached.false r
     (c.latest_asked.ensures.latest ix) c.if-latest_asked-ne0.true
-
-pub restated_by-requires : goal.restated_by-requires
-restated_by-requires c = (
-  c.args.past.now.work_holds,
-  (omega (arith, (bounds c.args.past.now)), c.args.past.now.small),
-)
 
 pub returns : goal.returns
 returns c =
@@ -52,11 +33,11 @@ returns c =
     let p = c.requires in
     λ ix e.
     let r =
-    (refused_is a.past.now.log.now a.node.0 p.0.within p.1.0 e ix.1.refused
+    (refused_is a.past.now.log.now a.node.0 a.past.now.within p.0 e ix.1.refused
     c.refused_by-refused.ensures.1) in
     first_itself a.past.now.log.now a.t a.node.0 (decode a.rec.now) c.parent_of-parent.ensures
     c.b-index.ensures (c.is_reached.ensures ix r)
     c.if-is_reached.false r (c.latest_asked.ensures.latest ix)
     c.restated_by.result c.if-latest_asked-ne0.false
-    (sym (not-not _) ∙ ap not (mark_is a.past.now.log.now a.node.0 p.0.within p.1.0 e ix.1.restated c.restated_by.ensures.1))
+    (sym (not-not _) ∙ ap not (mark_is a.past.now.log.now a.node.0 a.past.now.within p.0 e ix.1.restated c.restated_by.ensures.1))
     c.is_reaching.ensures

@@ -1,5 +1,4 @@
 -- The walk along the chain of node and range leaves out no record that is looked for.
-use Rattle.history.proofs.Pasts.{bounds}
 use Rattle.history.specs.Buckets.{bucket_by_two}
 use mathlib.Core.Path.{refl, ap, ◌∙◌}
 use native.Mathlib.Omega.{arith}
@@ -9,7 +8,7 @@ use borrow.Author.Tests.{leb-true}
 use lib.Dec.{eqb, leb}
 use Rattle.record.specs.Records.{TraceRecord}
 use Rattle.rules.specs.History.{is_by}
-use Rattle.history.proofs.Logs.{record_bytes, bytes_length}
+use Rattle.history.proofs.Logs.{record_bytes}
 use Rattle.one_owner_per_key.specs.Columns.{by_hold}
 use Rattle.record.proofs.Booleans.{and_left}
 use Rattle.one_owner_per_key.proofs.Walks.{walk_first, walk_next, walk_hit, two_below}
@@ -29,21 +28,6 @@ loop-i-init c =
 pub overflow_sub-at : goal.overflow_sub-at
 overflow_sub-at c = omega arith
 
-pub record-requires : goal.record-requires
-record-requires c = omega (arith, (bounds c.args.past.now))
-
-pub mark_at-requires : goal.mark_at-requires
-mark_at-requires c = (
-  c.args.past.now.work_holds,
-  (omega (arith, (bounds c.args.past.now), c.loop-i.invariant.0), c.args.past.now.small),
-)
-
-pub is_asked_of-requires : goal.is_asked_of-requires
-is_asked_of-requires c =
-    rw c.record.ensures (bytes_length c.args.past.now.log.now
-    (c.loop-i.i - 1) (omega
-    (arith, (bounds c.args.past.now), c.loop-i.invariant.0)))
-
 pub returns-then-i-top : goal.returns-then-i-top
 returns-then-i-top c =
     let l = c.loop-i in
@@ -54,18 +38,12 @@ returns-then-i-top c =
       latest = λ ix.
           above_found
           (walk_hit (by_asked a.past.now.cap a.asked a.node.0 a.range) a.past.now.log.now a.top (omega arith) (l.invariant.1 ix)
-          (asks_test a.past.now.log.now a.node.0 ix.1 p.0.within (l.i - 1) (omega (arith, l.invariant.0)) a.asked a.range
+          (asks_test a.past.now.log.now a.node.0 ix.1 a.past.now.within (l.i - 1) (omega (arith, l.invariant.0)) a.asked a.range
           c.mark_at.ensures (c.is_asked_of.ensures ∙ ap
           (λ (y : TraceRecord). is_by a.node.0 y && eqb y.a a.range && asks_kind a.asked y (not (eqb c.mark_at.result 0)))
           (record_bytes a.past.now.log.now _ c.record.ensures))) c.if-i-top.true)
           c.loop-i-test.true;
     }
-
-pub hold_below-i-requires : goal.hold_below-i-requires
-hold_below-i-requires c = (
-  c.args.past.now.work_holds,
-  (omega (arith, (bounds c.args.past.now), c.loop-i.invariant.0), c.args.past.now.small),
-)
 
 pub loop-i-smaller : goal.loop-i-smaller
 loop-i-smaller c = omega (arith, c.hold_below-i.ensures.0, c.loop-i-test.true)
@@ -77,9 +55,9 @@ loop-i-preserved c =
     let p = c.requires in (
       omega (arith, c.hold_below-i.ensures.0, l.invariant.0),
       λ ix.
-          walk_next (by_asked a.past.now.cap a.asked a.node.0 a.range) a.past.now.log.now a.top a.past.now.count ix.0.held p.0.within (omega arith)
+          walk_next (by_asked a.past.now.cap a.asked a.node.0 a.range) a.past.now.log.now a.top a.past.now.count ix.0.held a.past.now.within (omega arith)
           l.invariant.0 (l.invariant.1 ix)
-          (asks_test a.past.now.log.now a.node.0 ix.1 p.0.within (l.i - 1) (omega (arith, l.invariant.0)) a.asked a.range
+          (asks_test a.past.now.log.now a.node.0 ix.1 a.past.now.within (l.i - 1) (omega (arith, l.invariant.0)) a.asked a.range
           c.mark_at.ensures
           (c.is_asked_of.ensures ∙ ap
           (λ (y : TraceRecord). is_by a.node.0 y && eqb y.a a.range && asks_kind a.asked y

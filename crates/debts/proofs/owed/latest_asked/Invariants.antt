@@ -1,7 +1,7 @@
 -- The walk along the chain of node and range leaves out no record that is looked for.
+use Rattle.history.specs.Pasts.{Indexed}
 use Rattle.history.specs.Buckets.{bucket_by_two}
 use Prim.Native.Nat.{◌≤◌}
-use Rattle.history.specs.Logs.{hist}
 use Rattle.one_owner_per_key.specs.Columns.{by_hold}
 use Rattle.one_owner_per_key.proofs.Walks.{Walking}
 use Rattle.splits.specs.Columns.{Known}

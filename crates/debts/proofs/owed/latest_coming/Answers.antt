@@ -1,5 +1,4 @@
 -- The walk along the chain of node and range leaves out no record at which the node comes to owe.
-use Rattle.history.proofs.Pasts.{bounds}
 use Rattle.history.specs.Buckets.{bucket_by_two}
 use mathlib.Core.Path.{refl, ap, ◌∙◌}
 use native.Mathlib.Omega.{arith}
@@ -10,7 +9,7 @@ use lib.Dec.{eqb, leb}
 use Rattle.record.specs.Records.{TraceRecord, decode}
 use Rattle.rules.specs.History.{is_by, any_of}
 use Rattle.record.proofs.Booleans.{both}
-use Rattle.history.proofs.Logs.{record_bytes, bytes_length}
+use Rattle.history.proofs.Logs.{record_bytes}
 use Rattle.one_owner_per_key.specs.Columns.{by_hold}
 use Rattle.one_owner_per_key.proofs.Walks.{walk_first, walk_next, walk_hit, two_below}
 use Rattle.debts.specs.Walk.{applying, comes}
@@ -29,29 +28,6 @@ loop-i-init c =
 pub overflow_sub-at : goal.overflow_sub-at
 overflow_sub-at c = omega arith
 
-pub record-requires : goal.record-requires
-record-requires c = omega (arith, (bounds c.args.past.now))
-
-pub mark_at-requires : goal.mark_at-requires
-mark_at-requires c = (
-  c.args.past.now.work_holds,
-  (omega (arith, (bounds c.args.past.now), c.loop-i.invariant.0), c.args.past.now.small),
-)
-
-pub server_at-requires : goal.server_at-requires
-server_at-requires c = (
-  c.args.past.now.work_holds,
-  (omega (arith, (bounds c.args.past.now), c.loop-i.invariant.0), c.args.past.now.small),
-)
-
-pub is_coming-requires : goal.is_coming-requires
-is_coming-requires c = (
-  rw c.record.ensures (bytes_length c.args.past.now.log.now
-      (c.loop-i.i - 1)
-      (omega (arith, (bounds c.args.past.now), c.loop-i.invariant.0))),
-  (LENGTH c split),
-)
-
 pub returns-then-is_coming : goal.returns-then-is_coming
 returns-then-is_coming c =
     let l = c.loop-i in
@@ -60,19 +36,13 @@ returns-then-is_coming c =
     λ ix.
     above_found
     (walk_hit (by_coming a.past.now.cap a.node.0 a.range a.index (decode a.split.now).voters) a.past.now.log.now a.past.now.count (omega arith)
-    (l.invariant.1 ix) (comes_test a.past.now.log.now a.node.0 ix.1 p.0.within (l.i - 1) (omega (arith, l.invariant.0)) a.range a.index
+    (l.invariant.1 ix) (comes_test a.past.now.log.now a.node.0 ix.1 a.past.now.within (l.i - 1) (omega (arith, l.invariant.0)) a.range a.index
     (decode a.split.now).voters c.mark_at.ensures c.server_at.ensures
     (c.is_coming.ensures ∙ ap (λ (y : TraceRecord). is_by a.node.0 y && eqb y.a a.range && applying a.index y
     (not (eqb c.mark_at.result 0)) && any_of (λ v. eqb v c.server_at.result)
     (decode a.split.now).voters) (record_bytes a.past.now.log.now _ c.record.ensures)))
     (both (le-leb l.i a.past.now.count l.invariant.0) c.if-is_coming.true))
     c.loop-i-test.true
-
-pub hold_below-i-requires : goal.hold_below-i-requires
-hold_below-i-requires c = (
-  c.args.past.now.work_holds,
-  (omega (arith, (bounds c.args.past.now), c.loop-i.invariant.0), c.args.past.now.small),
-)
 
 pub loop-i-smaller : goal.loop-i-smaller
 loop-i-smaller c = omega (arith, c.hold_below-i.ensures.0, c.loop-i-test.true)
@@ -85,8 +55,8 @@ loop-i-preserved c =
       omega (arith, c.hold_below-i.ensures.0, l.invariant.0),
       λ ix.
           walk_next (by_coming a.past.now.cap a.node.0 a.range a.index (decode a.split.now).voters) a.past.now.log.now a.past.now.count a.past.now.count
-          ix.0.held p.0.within (omega arith) l.invariant.0 (l.invariant.1 ix)
-          (comes_test a.past.now.log.now a.node.0 ix.1 p.0.within (l.i - 1) (omega (arith, l.invariant.0)) a.range a.index
+          ix.0.held a.past.now.within (omega arith) l.invariant.0 (l.invariant.1 ix)
+          (comes_test a.past.now.log.now a.node.0 ix.1 a.past.now.within (l.i - 1) (omega (arith, l.invariant.0)) a.range a.index
           (decode a.split.now).voters c.mark_at.ensures c.server_at.ensures
           (c.is_coming.ensures ∙ ap
           (λ (y : TraceRecord). is_by a.node.0 y && eqb y.a a.range && applying a.index y

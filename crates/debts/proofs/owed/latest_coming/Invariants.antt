@@ -1,8 +1,8 @@
 -- The walk along the chain of node and range leaves out no record at which the node comes to owe.
+use Rattle.history.specs.Pasts.{Indexed}
 use Rattle.history.specs.Buckets.{bucket_by_two}
 use Prim.Native.Nat.{◌≤◌}
 use Rattle.record.specs.Records.{decode}
-use Rattle.history.specs.Logs.{hist}
 use Rattle.one_owner_per_key.specs.Columns.{by_hold}
 use Rattle.one_owner_per_key.proofs.Walks.{Walking}
 use Rattle.splits.specs.Columns.{Known}

@@ -1,39 +1,16 @@
 -- The latest coming after the registering and the latest cancel; else the registering itself, where it is later than the cancel.
-use Rattle.history.proofs.Pasts.{bounds}
 use mathlib.Core.Path.{ap, ◌∙◌}
-use native.Mathlib.Omega.{arith}
 use mathlib.Core.Logic.{inl, inr}
 use Prim.Native.Nat.{ℕ}
 use Rattle.record.specs.Records.{TraceRecord, decode}
 use Rattle.history.specs.Logs.{hist}
-use Rattle.history.proofs.Logs.{record_bytes, record_length}
+use Rattle.history.proofs.Logs.{record_bytes}
 use Rattle.one_owner_per_key.specs.Numbers.{latest_number}
 use Rattle.splits.specs.Splits.{parent_by}
 use Rattle.debts.specs.Walk.{above, comes, owes_first}
 use Rattle.debts.proofs.Comings.{floor_is, owes_coming, owes_cancelled, owes_at_first}
 use Rattle.debts.proofs.owed.owes_by.Goals.{then-cancel-t, else-cancel-t}
 use Rattle.debts.proofs.owed.owes_by.Goals as goal
-
-pub record-split-requires : goal.record-split-requires
-record-split-requires c = omega (arith, (bounds c.args.past.now))
-
-pub parent_of-parent-requires : goal.parent_of-parent-requires
-parent_of-parent-requires c =
-    record_length c.args.past.now.log.now c.args.t c.record-split.ensures
-    (omega (arith, (bounds c.args.past.now)))
-
-pub b-index-requires : goal.b-index-requires
-b-index-requires c =
-    record_length c.args.past.now.log.now c.args.t c.record-split.ensures
-    (omega (arith, (bounds c.args.past.now)))
-
-pub latest_coming-requires : goal.latest_coming-requires
-latest_coming-requires c = (
-  (bounds c.args.past.now),
-  record_length c.args.past.now.log.now
-      c.args.t c.record-split.ensures
-      (omega (arith, (bounds c.args.past.now))),
-)
 
 pub returns-then-latest_coming-ne0 : goal.returns-then-latest_coming-ne0
 returns-then-latest_coming-ne0 c =
@@ -71,19 +48,6 @@ returns-then-t-cancel c =
     c.b-index.ensures
     ∙ ap (λ (z : TraceRecord). above f (latest_number (comes a.node.0 (parent_by z) z.b z.voters) (hist a.past.now.log.now a.past.now.count)))
     (record_bytes a.past.now.log.now a.t c.record-split.ensures)) c.if-latest_coming-ne0.false c.if-t-cancel.true
-
-pub owes_first-requires : goal.owes_first-requires
-owes_first-requires c = (
-  (bounds c.args.past.now),
-  (
-    omega (arith, c.requires),
-    record_length
-        c.args.past.now.log.now
-        c.args.t
-        c.record-split.ensures
-        (omega (arith, (bounds c.args.past.now))),
-  ),
-)
 
 pub returns : goal.returns
 returns c =
