@@ -1,6 +1,6 @@
 -- Laws of taking a record: its words in the columns of the blocks, and its place in the chain of the firsts.
 use mathlib.Core.Path.{◌≡◌, refl, sym, ap, ◌∙◌}
-use mathlib.Core.Bool.{Bool, true, false, cond, ◌&&◌}
+use mathlib.Core.Bool.{Bool, true, false, cond, not, ◌&&◌}
 use mathlib.Core.List.{List, ◌∷◌}
 use Rattle.std.specs.Prelude.{Option, None, Some}
 use Prim.Native.Nat.{ℕ, zero, suc, ◌+◌, ◌*◌, ◌<◌, max}
@@ -11,7 +11,10 @@ use borrow.Author.Tests.{eq-eqb, ne_eqb, eqb-true}
 use Rattle.record.specs.Records.{TraceRecord}
 use Rattle.rules.specs.History.{History, is_kind, is_some, any_of}
 use Rattle.rules.specs.IdsUnique.{Grant, grant_by, nonempty, same_index, first_grants, blocks_of}
+use Rattle.history.specs.declared.past.Past.{Past}
+use Rattle.history.specs.declared.walk.Taken.{Taken}
 use Rattle.history.specs.Logs.{hist}
+use Rattle.history.specs.Pasts.{taken, IsFound, number_of}
 use Rattle.history.specs.Columns.{Put}
 use Rattle.history.specs.Places.{block_links, greatest_last}
 use Rattle.history.proofs.Logs.{hist_length}
@@ -25,25 +28,27 @@ use Rattle.ids_unique.proofs.Blocks.{block_is, block_none, block_empty, block_ne
 
 -- whether a record has a first grant: no other kind; an index that has none before; one that has
 module _ (x : TraceRecord) where
-  pub first_not : {k : ℕ} (h : History) → k ≡ x.kind → (k ≡ 11 → ⊥) → false ≡ is_some (first_grant x h)
-  first_not h e n = let q : eqb x.kind 11 ≡ false = ne_eqb x.kind 11 (λ z. n (e ∙ z)) in rw (no_grant x h q)
+  pub first_not : {k : ℕ} (h : History) → k ≡ x.kind → (k ≡ 11 → ⊥) → eqb k 11 ≡ is_some (first_grant x h)
+  first_not h e n = let q : eqb x.kind 11 ≡ false = ne_eqb x.kind 11 (λ z. n (e ∙ z)) in rw (e, no_grant x h q) q
 
-  module _ (log : List ℕ) (count : ℕ) {b n k : ℕ} (i : b ≡ x.b) (f : n ≡ first_grant_at b (hist log count)) (e : k ≡ x.kind) (q : k ≡ 11) where
-    is_grant_lem : is_kind 11 x ≡ true
-    is_grant_lem = eq-eqb x.kind 11 (sym e ∙ q)
+  -- one whose index has none before has one
+  pub first_found : (p : Past) (r : Option Taken) {b k : ℕ} {t : Bool} → IsFound p r → number_of r ≡ first_grant_at b (taken p) → b ≡ x.b → k ≡ x.kind
+      → k ≡ 11 → is_some r ≡ not t → t ≡ is_some (first_grant x (taken p))
+  first_found p r {t = t} w f i e q n = go r t w n (any_grant (grant_by x) p.log.now p.count (number_of r) (rw (← i) f))
+    where
+      kind : is_kind 11 x ≡ true
+      kind = eq-eqb x.kind 11 (sym e ∙ q)
 
-    known_by : any_of (same_index (grant_by x)) (first_grants (hist log count)) ≡ is_some (grant_numbered log n)
-    known_by = any_grant (grant_by x) log count n (rw (← i) f)
+      numbered : (n : ℕ) → 0 < n → is_some (grant_numbered p.log.now n) ≡ true
+      numbered zero l = absurd (omega arith)
+      numbered (suc n) l = refl
 
-    pub first_yes : n ≡ 0 → true ≡ is_some (first_grant x (hist log count))
-    first_yes z = rw (grant_new x (hist log count) is_grant_lem (known_by ∙ ap (λ (m : ℕ). is_some (grant_numbered log m)) z))
-
-    pub first_no : (n ≡ 0 → ⊥) → false ≡ is_some (first_grant x (hist log count))
-    first_no z = rw (grant_known x (hist log count) is_grant_lem (known_by ∙ numbered n z))
-      where
-        numbered : (m : ℕ) → (m ≡ 0 → ⊥) → is_some (grant_numbered log m) ≡ true
-        numbered zero y = absurd (y refl)
-        numbered (suc m) y = refl
+      go : (r : Option Taken) (t : Bool) → IsFound p r → is_some r ≡ not t
+          → any_of (same_index (grant_by x)) (first_grants (taken p)) ≡ is_some (grant_numbered p.log.now (number_of r)) → t ≡ is_some (first_grant x (taken p))
+      go None true w n k = rw (grant_new x (taken p) kind k)
+      go None false w n k = never n refl
+      go (Some y) true w n k = never refl n
+      go (Some y) false w n k = rw (grant_known x (taken p) kind (k ∙ numbered y.number w.some))
 
 -- nothing is told, where it is found that nothing is
 none_of : {A : Type 0} (o : Option A) → false ≡ is_some o → o ≡ None

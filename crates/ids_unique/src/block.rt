@@ -5,8 +5,8 @@ ghost use Rattle.ids_unique.specs.Columns.{IdsIndexed};
 ghost use Rattle.ids_unique.specs.Sharing.{weigh, weigh_all};
 ghost use Rattle.history.specs.Pasts.{taken, Indexed};
 
-use history::past::Past;
 use crate::cells::block_below;
+use history::past::Past;
 use record::field::{d, e};
 
 // What a walk from block to block has found of a new block: whether one shares an id with it, and the greatest first not

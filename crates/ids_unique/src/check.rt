@@ -7,10 +7,10 @@ ghost use Rattle.firsts.specs.Columns.{FirstsIndexed};
 ghost use Rattle.ids_unique.specs.Columns.{IdsIndexed};
 ghost use Rattle.history.specs.Pasts.{taken, Indexed};
 
-use history::past::Past;
 use crate::block::shared_with;
 use crate::cells::greatest_last;
 use firsts::cells::grant_at;
+use history::past::Past;
 use record::Record;
 use record::field::{a, b, c, d, e, kind};
 use rules::Fault;
@@ -58,9 +58,8 @@ pub fn ids(past: &Past, rec: &Record) -> Option<Fault>
     if kind(rec) != 11 {
         return None;
     }
-    let n = grant_at(past, b(rec));
-    if n == 0 {
-        return first_case(past, rec);
+    match grant_at(past, b(rec)) {
+        None => first_case(past, rec),
+        Some(old) => again_case(rec, old.record),
     }
-    again_case(rec, past.record(n - 1))
 }

@@ -5,14 +5,11 @@ ghost use Rattle.rules.specs.Answers.{found_at};
 ghost use Rattle.history.specs.Pasts.{taken, Indexed};
 
 use firsts::cells::grant_at;
+use history::past::Past;
 
 // The number of that record, or nothing.
 pub fn first_grant(past: &Past, index: u64) -> Option<u64>
     ensures { Indexed FirstsIndexed past.now → result ≡ found_at (first_grant_at index (taken past.now)) }
 {
-    let n = grant_at(past, index);
-    if n == 0 {
-        return None;
-    }
-    Some(n as u64)
+    grant_at(past, index).map(|old| old.number as u64)
 }

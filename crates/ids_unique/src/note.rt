@@ -9,11 +9,11 @@ ghost use Rattle.firsts.specs.Columns.{FirstsIndexed, first_grant};
 ghost use Rattle.ids_unique.specs.Columns.{Marked, IdsNoted};
 ghost use Rattle.history.specs.Pasts.{taken, Indexed};
 
-use history::past::Past;
 use crate::cells::{block_below, greatest_last};
 use firsts::cells::grant_at;
 use firsts::note::enter_grant;
 use history::chain::put;
+use history::past::Past;
 use history::place::{BLOCK_LINKS, GREATEST_LAST};
 use record::Record;
 use record::field::{b, d, e, kind};
@@ -23,13 +23,7 @@ fn is_first(past: &Past, rec: &Record) -> bool
     ensures kind { result ≡ true → (decode rec.now).kind ≡ 11 }
     ensures first { Indexed FirstsIndexed past.now → result ≡ is_some (first_grant (decode rec.now) (taken past.now)) }
 {
-    if kind(rec) != 11 {
-        return false;
-    }
-    if grant_at(past, b(rec)) == 0 {
-        return true;
-    }
-    false
+    kind(rec) == 11 && grant_at(past, b(rec)).is_none()
 }
 
 // Whether a grant is not empty.
@@ -86,7 +80,15 @@ pub fn note(log: &[u8], work: &mut [u64], count: usize, cap: usize, rec: &Record
     requires { Bounds log.now work.old count cap × (count < cap) }
     ensures { IdsNoted cap (hist log.now count) (decode rec.now) work.old work.new }
 {
-    let first = is_first(&Past { log, work, count, cap }, rec);
+    let first = is_first(
+        &Past {
+            log,
+            work,
+            count,
+            cap,
+        },
+        rec,
+    );
     mark(work, count, cap, first & is_full(rec), e(rec));
     if first {
         enter_grant(work, count, cap, rec);

@@ -3,7 +3,6 @@ use mathlib.Core.Path.{refl, sym}
 use mathlib.Core.Bool.{false}
 use native.Mathlib.Omega.{arith}
 use Rattle.record.specs.Records.{TraceRecord}
-use Rattle.history.proofs.Logs.{record_length}
 use Rattle.ids_unique.specs.Sharing.{weigh_all}
 use Rattle.firsts.proofs.Grants.{read_at}
 use Rattle.ids_unique.proofs.Blocks.{blocks_skip, block_stands}
@@ -17,12 +16,6 @@ loop-i-init c =
       λ k. block_stands a.past.now.log.now _ (blocks_skip a.past.now.log.now (weigh_all a.first a.last (record { any = false; top = 0 }))) refl
           (c.block_below-i.ensures.1 a.past.now.log.now a.past.now.count (omega arith) (omega arith) k),
     )
-
-pub d-requires : goal.d-requires
-d-requires c = record_length _ _ c.record-rec.ensures (omega arith)
-
-pub e-requires : goal.e-requires
-e-requires c = record_length _ _ c.record-rec.ensures (omega arith)
 
 pub loop-i-preserved : goal.loop-i-preserved
 loop-i-preserved c =

@@ -1,5 +1,5 @@
 -- A walk from block to block: what is weighed so far, with what is still to weigh, is what all weigh.
-use Rattle.history.specs.Pasts.{taken}
+use Rattle.history.specs.Pasts.{taken, Indexed}
 use mathlib.Core.Bool.{false}
 use Prim.Native.Nat.{◌≤◌}
 use Rattle.rules.specs.IdsUnique.{blocks_of}
