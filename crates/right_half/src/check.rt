@@ -11,14 +11,13 @@ ghost use Rattle.splits.specs.Numbers.{split_number, named_number};
 ghost use Rattle.splits.specs.Columns.{Known};
 ghost use Rattle.history.specs.Pasts.{taken, Indexed};
 
-use history::past::Past;
 use crate::lacking::lowest_lacking;
 use crate::missing::lowest_missing;
 use debts::debt::debt_of;
+use history::past::Past;
 use one_owner_per_key::held::{held_by, latest_of};
-use record::Record;
-use record::field;
 use record::named::NodeId;
+use record::{Record, field};
 use rules::Fault;
 use splits::cells::named_by;
 use splits::split::{has_taken, is_voter, parent_of, registers, right_of, split_of};
@@ -33,7 +32,10 @@ fn missing_case(past: &Past, kind: u8, node: NodeId, right: u64) -> Option<Fault
         return None;
     }
     let found = past.record(k - 1);
-    Some(Fault::new(kind, &[node.0 as u64, parent_of(found), field::b(found), right]))
+    Some(Fault::new(
+        kind,
+        &[node.0 as u64, parent_of(found), field::b(found), right],
+    ))
 }
 
 // The case of the lowest right range that a node owes and does not hold, where there is one.
@@ -80,7 +82,12 @@ fn taken_case(past: &Past, rec: &Record, node: NodeId, k: usize) -> Option<Fault
     ensures { Indexed Known past.now → k ≡ split_number (decode rec.now).a (decode rec.now).b (taken past.now) → is_by node.0 (decode rec.now) ≡ true → has_effect Took (decode rec.now) ≡ true → result ≡ missing_fault 1 node.0 (decode rec.now ∷ taken past.now) }
 {
     let found = past.record(k - 1);
-    let right = right_of(past.log, past.count, found, named_by(past.work, past.cap, k - 1));
+    let right = right_of(
+        past.log,
+        past.count,
+        found,
+        named_by(past.work, past.cap, k - 1),
+    );
     let lowest = lowest_missing(past, node);
     if is_lowest(past, found, node, right, lowest) {
         return Some(Fault::new(1, &[node.0 as u64, field::a(rec), field::b(rec), right]));

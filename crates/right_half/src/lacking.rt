@@ -9,13 +9,12 @@ ghost use Rattle.splits.specs.Columns.{Known};
 ghost use Rattle.right_half.specs.Answers.{lowered_by};
 ghost use Rattle.history.specs.Pasts.{taken, Indexed};
 
-use history::past::Past;
 use crate::missing::is_below;
 use debts::owed::{cancel_of, is_reached, owes_by};
+use history::past::Past;
 use one_owner_per_key::held::{held_by, latest_of};
-use record::Record;
-use record::field;
 use record::named::NodeId;
+use record::{Record, field};
 use splits::cells::{
     named_by, recorded_below, recorded_top, refused_by, registering_by, restated_by, server_by,
 };
@@ -29,7 +28,13 @@ pub fn is_owed(past: &Past, node: NodeId, refused: usize, right: u64) -> bool
     let mut i = registering_by(past.work, past.cap, past.count);
     while 0 < i {
         let at = i - 1;
-        if right_of(past.log, past.count, past.record(at), named_by(past.work, past.cap, at)) == right {
+        if right_of(
+            past.log,
+            past.count,
+            past.record(at),
+            named_by(past.work, past.cap, at),
+        ) == right
+        {
             if owes_by(past, at, node, cancel) {
                 return true;
             }
@@ -51,7 +56,14 @@ pub fn was_held(past: &Past, node: NodeId, restated: usize, refused: usize, rang
 }
 
 // Whether a node lacks the right range of the split that the record registers.
-pub fn lacks_at(past: &Past, node: NodeId, rec: &Record, parent: u64, index: u64, right: u64) -> bool
+pub fn lacks_at(
+    past: &Past,
+    node: NodeId,
+    rec: &Record,
+    parent: u64,
+    index: u64,
+    right: u64,
+) -> bool
     ensures { Indexed Known past.now → (s : Registered) → registers (decode rec.now) (taken past.now) ≡ Some s → parent ≡ s.parent → index ≡ s.index → right ≡ s.right → result ≡ lacks s (decode rec.now) (taken past.now) node.0 }
 {
     let last = latest_of(past, past.count, node);
@@ -73,7 +85,15 @@ pub fn lacks_at(past: &Past, node: NodeId, rec: &Record, parent: u64, index: u64
 }
 
 // The lowest so far, with the node of a record.
-fn lowered_by(past: &Past, found: &Record, rec: &Record, parent: u64, index: u64, right: u64, best: Option<u64>) -> Option<u64>
+fn lowered_by(
+    past: &Past,
+    found: &Record,
+    rec: &Record,
+    parent: u64,
+    index: u64,
+    right: u64,
+    best: Option<u64>,
+) -> Option<u64>
     ensures { Indexed Known past.now → (s : Registered) → registers (decode rec.now) (taken past.now) ≡ Some s → parent ≡ s.parent → index ≡ s.index → right ≡ s.right → result ≡ lowered_by (lacks s (decode rec.now) (taken past.now)) (decode found.now).node best }
 {
     let marked = field::node(found);
@@ -97,13 +117,7 @@ pub fn lowest_lacking(past: &Past, rec: &Record, parent: u64, index: u64, right:
     let mut i = recorded_top(past.work, past.cap, past.count, parent);
     while 0 < i {
         let at = i - 1;
-        best = lowered_by(past, past.record(at),
-            rec,
-            parent,
-            index,
-            right,
-            best,
-        );
+        best = lowered_by(past, past.record(at), rec, parent, index, right, best);
         i = recorded_below(past.work, past.cap, at);
     }
     best

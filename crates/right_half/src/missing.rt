@@ -42,7 +42,15 @@ fn is_lacking(past: &Past, node: NodeId, ended: usize, refused: usize, t: usize,
 }
 
 // The lowest so far, with that right range.
-fn lowered(past: &Past, node: NodeId, ended: usize, refused: usize, t: usize, right: u64, best: Option<u64>) -> Option<u64>
+fn lowered(
+    past: &Past,
+    node: NodeId,
+    ended: usize,
+    refused: usize,
+    t: usize,
+    right: u64,
+    best: Option<u64>,
+) -> Option<u64>
     requires { t < past.now.count }
     ensures { Indexed Known past.now → ended ≡ latest_end node.0 (taken past.now) → refused ≡ refused_number node.0 (taken past.now) → result ≡ cond (lacks_split past.now.log.now past.now.count node.0 t right) (lower (λ n. n) right best) best }
 {
@@ -65,7 +73,12 @@ pub fn lowest_missing(past: &Past, node: NodeId) -> Option<u64>
     let mut i = registering_by(past.work, past.cap, past.count);
     while 0 < i {
         let at = i - 1;
-        let right = right_of(past.log, past.count, past.record(at), named_by(past.work, past.cap, at));
+        let right = right_of(
+            past.log,
+            past.count,
+            past.record(at),
+            named_by(past.work, past.cap, at),
+        );
         best = lowered(past, node, ended, refused, at, right, best);
         i = registering_by(past.work, past.cap, at);
     }

@@ -10,18 +10,6 @@ use Rattle.right_half.proofs.check.registering_case.Goals as goal
 pub returns-then-named-eq0 : goal.returns-then-named-eq0
 returns-then-named-eq0 c = let a = c.args in λ ix e. unregistered_clear a.past.now.log.now a.past.now.count (decode a.rec.now) e c.if-named-eq0.true
 
-pub parent_of-parent-requires : goal.parent_of-parent-requires
-parent_of-parent-requires c = (LENGTH c rec)
-
-pub b-index-requires : goal.b-index-requires
-b-index-requires c = (LENGTH c rec)
-
-pub right_of-right-requires : goal.right_of-right-requires
-right_of-right-requires c = (c.args.past.now.log_holds, (LENGTH c rec))
-
-pub lowest_lacking-requires : goal.lowest_lacking-requires
-lowest_lacking-requires c = c.requires
-
 pub returns : goal.returns
 returns c =
     let a = c.args in

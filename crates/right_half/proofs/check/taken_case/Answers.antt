@@ -5,33 +5,16 @@ use mathlib.Core.Path.{ap, ◌∙◌}
 use native.Mathlib.Omega.{arith}
 use Prim.Native.Nat.{◌-◌}
 use Rattle.record.specs.Records.{decode}
-use Rattle.history.proofs.Logs.{record_bytes, record_length}
+use Rattle.history.proofs.Logs.{record_bytes}
 use Rattle.splits.proofs.Noting.{named_read}
 use Rattle.right_half.proofs.Checks.{taken_split, taken_range, taken_own, taken_other}
 use Rattle.right_half.proofs.check.taken_case.Goals as goal
-
-pub right_of-right-requires : goal.right_of-right-requires
-right_of-right-requires c = (
-  c.args.past.now.log_holds,
-  record_length c.args.past.now.log.now
-      (c.args.k - 1) c.record-found.ensures
-      (omega (arith, (bounds c.args.past.now), c.requires.1.1)),
-)
-
-pub is_lowest-requires : goal.is_lowest-requires
-is_lowest-requires c = (
-  (bounds c.args.past.now),
-  record_length
-      c.args.past.now.log.now (c.args.k - 1)
-      c.record-found.ensures
-      (omega (arith, (bounds c.args.past.now), c.requires.1.1)),
-)
 
 pub returns-then-is_lowest : goal.returns-then-is_lowest
 returns-then-is_lowest c =
     let a = c.args in
     let p = (bounds c.args.past.now) in
-    let l = c.requires.1.1 in
+    let l = c.requires in
     let x = decode a.rec.now in
     λ ix ek b t.
     let w = taken_split a.past.now.log.now a.past.now.count x ek l.0 in
@@ -48,7 +31,7 @@ pub returns : goal.returns
 returns c =
     let a = c.args in
     let p = (bounds c.args.past.now) in
-    let l = c.requires.1.1 in
+    let l = c.requires in
     let x = decode a.rec.now in
     λ ix ek b t.
     let w = taken_split a.past.now.log.now a.past.now.count x ek l.0 in

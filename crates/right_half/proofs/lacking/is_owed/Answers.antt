@@ -6,7 +6,7 @@ use Prim.Native.Nat.{◌-◌}
 use Rattle.record.specs.Records.{TraceRecord}
 use Rattle.rules.specs.History.{is_kind}
 use Rattle.history.specs.Logs.{record_at}
-use Rattle.history.proofs.Logs.{record_bytes, record_length}
+use Rattle.history.proofs.Logs.{record_bytes}
 use Rattle.splits.specs.Splits.{right_by}
 use Rattle.debts.specs.Walk.{owes_split}
 use Rattle.splits.proofs.Noting.{registering_read, named_read}
@@ -14,9 +14,6 @@ use Rattle.splits.proofs.Registered.{named_range, range_of}
 use Rattle.right_half.proofs.Lacks.{owed_first, owed_here, owed_next, owed_end}
 use Rattle.right_half.proofs.lacking.is_owed.Goals.{then-right_of-right+else-owes_by, else-right_of-right}
 use Rattle.right_half.proofs.lacking.is_owed.Goals as goal
-
-pub registering_by-i-requires : goal.registering_by-i-requires
-registering_by-i-requires c = (c.args.past.now.work_holds, (c.args.past.now.within, c.args.past.now.small))
 
 pub loop-i-init : goal.loop-i-init
 loop-i-init c =
@@ -29,31 +26,6 @@ loop-i-init c =
 
 pub overflow_sub-at : goal.overflow_sub-at
 overflow_sub-at c = omega arith
-
-pub record-requires : goal.record-requires
-record-requires c = omega (arith, (bounds c.args.past.now))
-
-pub named_by-requires : goal.named_by-requires
-named_by-requires c = (
-  c.args.past.now.work_holds,
-  (omega (arith, (bounds c.args.past.now), c.loop-i.invariant.0), c.args.past.now.small),
-)
-
-pub right_of-requires : goal.right_of-requires
-right_of-requires c = (
-  c.args.past.now.log_holds,
-  record_length
-      c.args.past.now.log.now (c.loop-i.i - 1)
-      c.record.ensures
-      (omega (arith, (bounds c.args.past.now), c.loop-i.invariant.0)),
-)
-
-pub owes_by-requires : goal.owes_by-requires
-owes_by-requires c = (
-  (bounds c.args.past.now),
-  omega
-      (arith, c.loop-i.invariant.0),
-)
 
 pub returns-then-owes_by : goal.returns-then-owes_by
 returns-then-owes_by c =
@@ -73,12 +45,6 @@ returns-then-owes_by c =
     ∙ ap (λ (z : TraceRecord). right_by a.past.now.log.now z c.named_by.result) y)
     c.if-right_of-right.true (c.cancel_of-cancel.ensures ix e)
     (c.owes_by.ensures ix) c.if-owes_by.true
-
-pub registering_by-i-requires-in-loop-i : goal.registering_by-i-requires-in-loop-i
-registering_by-i-requires-in-loop-i c = (
-  c.args.past.now.work_holds,
-  (omega (arith, (bounds c.args.past.now), c.loop-i.invariant.0), c.args.past.now.small),
-)
 
 pub loop-i-smaller : goal.loop-i-smaller
 loop-i-smaller c = omega (arith, c.registering_by-i-in-loop-i.ensures.0)

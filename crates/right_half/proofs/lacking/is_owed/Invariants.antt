@@ -1,8 +1,8 @@
 -- No registering record from i on makes it owed.
+use Rattle.history.specs.Pasts.{Indexed}
 use Rattle.history.specs.Pasts.{taken}
 use mathlib.Core.Path.{◌≡◌}
 use Prim.Native.Nat.{◌≤◌}
-use Rattle.history.specs.Logs.{hist}
 use Rattle.splits.specs.Numbers.{refused_number}
 use Rattle.splits.specs.Columns.{Known}
 use Rattle.right_half.proofs.Lacks.{Unowed}

@@ -14,15 +14,6 @@ use Rattle.splits.proofs.States.{server_is, restated_is, refused_is, mark_is}
 use Rattle.right_half.proofs.Lacks.{lacks_unrestated, lacks_unreached, lacks_held, lacks_owing, voter_of, reaches_as}
 use Rattle.right_half.proofs.lacking.lacks_at.Goals as goal
 
-pub latest_of-last-requires : goal.latest_of-last-requires
-latest_of-last-requires c = ((bounds c.args.past.now), omega arith)
-
-pub restated_by-restated-requires : goal.restated_by-restated-requires
-restated_by-restated-requires c = (
-  c.args.past.now.work_holds,
-  (omega (arith, (bounds c.args.past.now), c.latest_of-last.ensures.within), c.args.past.now.small),
-)
-
 pub returns-then-restated-eq0 : goal.returns-then-restated-eq0
 returns-then-restated-eq0 c =
     let a = c.args in
@@ -33,15 +24,6 @@ returns-then-restated-eq0 c =
     let q = c.latest_of-last.ensures.latest ix.0 in
     let k = mark_is a.past.now.log.now a.node.0 p.within (omega arith) q ix.1.restated c.restated_by-restated.ensures.1 in
     lacks_unrestated x h a.node.0 s r (sym k ∙ ap not (eq-eqb _ 0 c.if-restated-eq0.true))
-
-pub refused_by-refused-requires : goal.refused_by-refused-requires
-refused_by-refused-requires c = (
-  c.args.past.now.work_holds,
-  (omega (arith, (bounds c.args.past.now), c.latest_of-last.ensures.within), c.args.past.now.small),
-)
-
-pub is_reached-requires : goal.is_reached-requires
-is_reached-requires c = ((bounds c.args.past.now), omega arith)
 
 pub returns-then-not-is_reached : goal.returns-then-not-is_reached
 returns-then-not-is_reached c =
@@ -55,13 +37,6 @@ returns-then-not-is_reached c =
     let f = refused_is a.past.now.log.now a.node.0 p.within (omega arith) q ix.1.refused c.refused_by-refused.ensures.1 in
     let g = reaches_as a.past.now.log.now a.past.now.count a.node.0 s ep ei (c.is_reached.ensures ix f) in
     lacks_unreached x h a.node.0 s r (sym k ∙ ap not (ne_eqb _ 0 c.if-restated-eq0.false)) (g ∙ c.if-not-is_reached.true)
-
-pub was_held-requires : goal.was_held-requires
-was_held-requires c = (
-  (bounds c.args.past.now),
-  omega
-      (arith, c.restated_by-restated.ensures.0, c.latest_of-last.ensures.within),
-)
 
 pub returns-then-was_held : goal.returns-then-was_held
 returns-then-was_held c =
@@ -80,15 +55,6 @@ returns-then-was_held c =
     lacks_held x h a.node.0 s r i (g ∙ c.if-not-is_reached.false)
     (sym (c.was_held.ensures ix (restated_is a.past.now.log.now a.node.0 p.within (omega arith) q ix.1.restated
     c.restated_by-restated.ensures.1) f i ∙ ap (λ (n : ℕ). restated_with a.node.0 n h) er) ∙ c.if-was_held.true)
-
-pub server_by-requires : goal.server_by-requires
-server_by-requires c = (
-  c.args.past.now.work_holds,
-  (omega (arith, c.latest_of-last.ensures.within, (bounds c.args.past.now)), c.args.past.now.small),
-)
-
-pub is_voter-requires : goal.is_voter-requires
-is_voter-requires c = (LENGTH c rec)
 
 pub returns-then-is_voter : goal.returns-then-is_voter
 returns-then-is_voter c =

@@ -1,5 +1,4 @@
 -- A node that is not below cannot lower it.
-use Rattle.history.proofs.Pasts.{bounds}
 use mathlib.Core.Path.{sym, ap, ◌∙◌}
 use Rattle.record.specs.Named.{Node}
 use Rattle.record.specs.Records.{decode}
@@ -14,10 +13,6 @@ returns-in_default c =
     let a = c.args in
     λ ix s r ep ei er. ap (λ (z : Node). lowered_by (lacks s (decode a.rec.now) (hist a.past.now.log.now a.past.now.count)) z a.best)
     (sym (sym c.node-marked.ensures ∙ c.in_default.is))
-
-pub lacks_at-requires : goal.lacks_at-requires
-lacks_at-requires c =
-    ((bounds c.args.past.now), (LENGTH c rec))
 
 pub returns-then-lacks_at : goal.returns-then-lacks_at
 returns-then-lacks_at c =

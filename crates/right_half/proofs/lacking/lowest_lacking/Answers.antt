@@ -7,7 +7,7 @@ use Rattle.record.specs.Records.{TraceRecord, decode}
 use Rattle.rules.specs.RightHalf.{lacks}
 use Rattle.rules.proofs.Candidates.{lacking_right}
 use Rattle.history.specs.Logs.{hist}
-use Rattle.history.proofs.Logs.{record_bytes, record_length}
+use Rattle.history.proofs.Logs.{record_bytes}
 use Rattle.one_owner_per_key.proofs.Walks.{bucket_below}
 use Rattle.splits.specs.Columns.{recorded_bucket, by_recording}
 use Rattle.right_half.specs.Answers.{lowered_by}
@@ -26,26 +26,6 @@ loop-i-init c =
 
 pub overflow_sub-at : goal.overflow_sub-at
 overflow_sub-at c = omega arith
-
-pub record-requires : goal.record-requires
-record-requires c = omega (arith, (bounds c.args.past.now))
-
-pub lowered_by-best-requires : goal.lowered_by-best-requires
-lowered_by-best-requires c = (
-  (bounds c.args.past.now),
-  (
-    (LENGTH c rec),
-    record_length
-        c.args.past.now.log.now (c.loop-i.i - 1) c.record.ensures
-        (omega (arith, (bounds c.args.past.now), c.loop-i.invariant.0)),
-  ),
-)
-
-pub recorded_below-i-requires : goal.recorded_below-i-requires
-recorded_below-i-requires c = (
-  c.args.past.now.work_holds,
-  (omega (arith, (bounds c.args.past.now), c.loop-i.invariant.0), c.args.past.now.small),
-)
 
 pub loop-i-smaller : goal.loop-i-smaller
 loop-i-smaller c = omega (arith, c.recorded_below-i.ensures.0)

@@ -1,11 +1,11 @@
 -- Every node that lacks it recorded an index of the parent.
+use Rattle.history.specs.Pasts.{Indexed}
 use Rattle.history.specs.Pasts.{taken}
 use mathlib.Core.Path.{◌≡◌}
 use Rattle.std.specs.Prelude.{Some}
 use Prim.Native.Nat.{◌≤◌}
 use Rattle.record.specs.Records.{decode}
 use Rattle.rules.specs.RightHalf.{Registered, registers, lacks}
-use Rattle.history.specs.Logs.{hist}
 use Rattle.splits.specs.Columns.{Known, recorded_bucket, by_recording}
 use Rattle.right_half.proofs.Lowering.{Lowering}
 use Rattle.right_half.proofs.lacking.lowest_lacking.Given as goal

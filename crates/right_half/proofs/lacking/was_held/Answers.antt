@@ -1,7 +1,5 @@
 -- What it held then, unless a refusal came since.
-use Rattle.history.proofs.Pasts.{bounds}
 use mathlib.Core.Path.{sym, ◌∙◌}
-use native.Mathlib.Omega.{arith}
 use Prim.Native.Nat.{◌-◌}
 use Rattle.history.specs.Logs.{hist}
 use Rattle.one_owner_per_key.proofs.Checks.{found_held}
@@ -10,9 +8,6 @@ use Rattle.right_half.proofs.lacking.was_held.Goals as goal
 
 pub returns-then-restated-refused : goal.returns-then-restated-refused
 returns-then-restated-refused c = let a = c.args in λ ix e f g. with_dropped a.node.0 a.range a.past.now.log.now a.past.now.count e f g c.if-restated-refused.true
-
-pub held_by-requires : goal.held_by-requires
-held_by-requires c = ((bounds c.args.past.now), omega (arith, c.requires))
 
 pub returns : goal.returns
 returns c =

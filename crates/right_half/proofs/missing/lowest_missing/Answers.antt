@@ -6,7 +6,7 @@ use Prim.Native.Nat.{◌-◌}
 use Rattle.record.specs.Records.{TraceRecord}
 use Rattle.rules.specs.History.{is_kind}
 use Rattle.history.specs.Logs.{record_at}
-use Rattle.history.proofs.Logs.{record_bytes, record_length}
+use Rattle.history.proofs.Logs.{record_bytes}
 use Rattle.one_owner_per_key.proofs.AsOf.{end_is}
 use Rattle.splits.specs.Splits.{right_by}
 use Rattle.splits.proofs.States.{refused_is}
@@ -14,31 +14,6 @@ use Rattle.splits.proofs.Noting.{registering_read, named_read}
 use Rattle.right_half.proofs.Searches.{search_first, search_next, search_end}
 use Rattle.splits.proofs.Registered.{named_range, range_of}
 use Rattle.right_half.proofs.missing.lowest_missing.Goals as goal
-
-pub latest_of-last-requires : goal.latest_of-last-requires
-latest_of-last-requires c = ((bounds c.args.past.now), omega arith)
-
-pub end_by-ended-requires : goal.end_by-ended-requires
-end_by-ended-requires c = (
-  c.args.past.now.work_holds,
-  (
-    omega
-        (arith, c.args.past.now.within, c.latest_of-last.ensures.within),
-    c.args.past.now.small,
-  ),
-)
-
-pub refused_by-refused-requires : goal.refused_by-refused-requires
-refused_by-refused-requires c = (
-  c.args.past.now.work_holds,
-  (omega (arith, (bounds c.args.past.now), c.latest_of-last.ensures.within), c.args.past.now.small),
-)
-
-pub registering_by-i-requires : goal.registering_by-i-requires
-registering_by-i-requires c = (
-  c.args.past.now.work_holds,
-  (c.args.past.now.within, c.args.past.now.small),
-)
 
 pub loop-i-init : goal.loop-i-init
 loop-i-init c =
@@ -51,37 +26,6 @@ loop-i-init c =
 
 pub overflow_sub-at : goal.overflow_sub-at
 overflow_sub-at c = omega arith
-
-pub record-requires : goal.record-requires
-record-requires c = omega (arith, (bounds c.args.past.now))
-
-pub named_by-requires : goal.named_by-requires
-named_by-requires c = (
-  c.args.past.now.work_holds,
-  (omega (arith, (bounds c.args.past.now), c.loop-i.invariant.0), c.args.past.now.small),
-)
-
-pub right_of-right-requires : goal.right_of-right-requires
-right_of-right-requires c = (
-  c.args.past.now.log_holds,
-  record_length
-      c.args.past.now.log.now (c.loop-i.i - 1)
-      c.record.ensures
-      (omega (arith, (bounds c.args.past.now), c.loop-i.invariant.0)),
-)
-
-pub lowered-best-requires : goal.lowered-best-requires
-lowered-best-requires c = (
-  (bounds c.args.past.now),
-  omega
-      (arith, c.loop-i.invariant.0),
-)
-
-pub registering_by-i-requires-in-loop-i : goal.registering_by-i-requires-in-loop-i
-registering_by-i-requires-in-loop-i c = (
-  c.args.past.now.work_holds,
-  (omega (arith, (bounds c.args.past.now), c.loop-i.invariant.0), c.args.past.now.small),
-)
 
 pub loop-i-smaller : goal.loop-i-smaller
 loop-i-smaller c = omega (arith, c.registering_by-i-in-loop-i.ensures.0)

@@ -1,6 +1,6 @@
 -- All registering records from i on are taken over.
+use Rattle.history.specs.Pasts.{Indexed}
 use Prim.Native.Nat.{◌≤◌}
-use Rattle.history.specs.Logs.{hist}
 use Rattle.splits.specs.Columns.{Known}
 use Rattle.right_half.proofs.Searches.{Searching}
 use Rattle.right_half.proofs.missing.lowest_missing.Given as goal
