@@ -1,8 +1,10 @@
 -- Bytes that are all zero, and places of keys that all pass a test: one turn of a loop over them, and its end.
+use Rattle.std.specs.Prelude.{fold}
+use Rattle.std.specs.List.{list_all, range_with_len}
 use mathlib.Core.Path.{◌≡◌, refl, sym, ap, ◌∙◌}
 use mathlib.Core.Bool.{Bool, true, false, ◌&&◌, and_assoc, and-true}
 use mathlib.Core.List.{List, [], ◌∷◌}
-use Prim.Native.Nat.{ℕ, suc, ◌+◌, ◌-◌, ◌*◌, ◌≤◌, ◌<◌, max}
+use Prim.Native.Nat.{ℕ, zero, suc, ◌+◌, ◌-◌, ◌*◌, ◌≤◌, ◌<◌, max}
 use native.Mathlib.Numerals.{add-one}
 use native.Mathlib.Omega.{arith}
 use lib.Bits.{bit_and, bit_or, and_zero_r, or_zero_r, or_add_and, and_le_l, and_le_r, and_mask}
@@ -34,23 +36,14 @@ all_zero_cons x xs = refl
 zero_step : (s : List ℕ) (i : ℕ) → i < length s → all_zero (drop i s) ≡ (eqb (get_or s i 0) 0 && all_zero (drop (i + 1) s))
 zero_step s i l = ap all_zero (drop-cons s i 0 l) ∙ all_zero_cons (get_or s i 0) (drop (suc i) s) ∙ rw add-one
 
--- the bytes before i are all zero exactly when their bits, seen, are none
-pub record Seen (s : List ℕ) (seen i : ℕ) : Type 0 where
-  pub within : i ≤ length s
-  pub is : all_zero s ≡ (eqb seen 0 && all_zero (drop i s))
+-- the bits of all bytes together, from those of acc on
+zero_fold_from : (s : List ℕ) (acc : ℕ) → eqb (fold bit_or acc s) 0 ≡ (eqb acc 0 && all_zero s)
+zero_fold_from [] acc = rw (all_zero_nil, and-true)
+zero_fold_from (x ∷ xs) acc = zero_fold_from xs (bit_or acc x) ∙ rw (or_zero, all_zero_cons, and_assoc)
 
-pub seen_start : (s : List ℕ) → Seen s 0 0
-seen_start s = record { within = omega arith; is = refl }
-
-pub seen_turn : {s : List ℕ} {seen i : ℕ} → Seen s seen i → i < length s → Seen s (bit_or seen (get_or s i 0)) (i + 1)
-seen_turn {s} {seen} {i} h l = record {
-  within = omega arith;
-  is = h.is ∙
-      rw (zero_step s i l, or_zero, and_assoc);
-}
-
-pub seen_end : {s : List ℕ} {seen i : ℕ} → Seen s seen i → length s ≤ i → eqb seen 0 ≡ all_zero s
-seen_end {s} {seen} {i} h l = sym (h.is ∙ rw (drop_of_length-le s l, all_zero_nil, and-true))
+-- the bytes' bits together are none exactly when every byte is zero
+pub zero_fold : (s : List ℕ) → eqb (fold bit_or 0 s) 0 ≡ all_zero s
+zero_fold s = zero_fold_from s 0
 
 every_none : (p : List ℕ → Bool) (q : ℕ) (s : List ℕ) → every p (places_from q 0 s) ≡ true
 unfolding every places_from
@@ -60,30 +53,19 @@ every_more : (p : List ℕ → Bool) (q n : ℕ) (s : List ℕ) → every p (pla
 unfolding every places_from
 every_more p q n s = refl
 
--- of the n keys' places those before i all pass the test p exactly when passed says so
-pub record Passed (p : List ℕ → Bool) (s : List ℕ) (n : ℕ) (passed : Bool) (i : ℕ) : Type 0 where
-  pub within : i ≤ n
-  pub is : every p (places_from spans_at n s) ≡ (passed && every p (places_from (spans_at + 32 * i) (n - i) s))
+-- a test of a place by its number is a test of all places, from the a-th on
+places_from_at : (p : List ℕ → Bool) (s : List ℕ) (test : ℕ → Bool)
+    → ((i : ℕ) → test i ≡ p (part (spans_at + 32 * i) (spans_at + 32 * i + 32) s))
+    → (a n : ℕ) → list_all test (range_with_len a n) ≡ every p (places_from (spans_at + 32 * a) n s)
+places_from_at p s test h a zero = sym (every_none p (spans_at + 32 * a) s)
+places_from_at p s test h a (suc n) =
+    let q : spans_at + 32 * (a + 1) ≡ spans_at + 32 * a + 32 = omega arith in
+    rw (h a, every_more, ← q, places_from_at p s test h (a + 1) n)
 
-pub passed_start : (p : List ℕ → Bool) (s : List ℕ) (n : ℕ) → Passed p s n true 0
-passed_start p s n =
-    let m : n - 0 ≡ n = omega arith in
-    record { within = omega arith; is = rw m }
-
-pub passed_turn : {p : List ℕ → Bool} {s : List ℕ} {n i : ℕ} {passed : Bool} → Passed p s n passed i → i < n
-    → (r : Bool) → r ≡ p (part (spans_at + 32 * i) (spans_at + 32 * i + 32) s) → Passed p s n (passed && r) (i + 1)
-passed_turn {p} {s} {n} {i} {passed} h l r e =
-    let m : n - i ≡ suc (n - (i + 1)) = omega arith in
-    let q : spans_at + 32 * i + 32 ≡ spans_at + 32 * (i + 1) = omega arith in
-    record {
-      within = omega arith;
-      is = h.is ∙ rw (m, every_more, ← e, q, and_assoc);
-    }
-
-pub passed_end : {p : List ℕ → Bool} {s : List ℕ} {n i : ℕ} {passed : Bool} → Passed p s n passed i → n ≤ i → passed ≡ every p (places_from spans_at n s)
-passed_end {p} {s} {n} {i} {passed} h l =
-    let m : n - i ≡ 0 = omega arith in
-    sym (h.is ∙ rw (m, every_none, and-true))
+pub places_at : (p : List ℕ → Bool) (s : List ℕ) (test : ℕ → Bool)
+    → ((i : ℕ) → test i ≡ p (part (spans_at + 32 * i) (spans_at + 32 * i + 32) s))
+    → (n : ℕ) → list_all test (range_with_len 0 n) ≡ every p (places_from spans_at n s)
+places_at p s test h n = places_from_at p s test h 0 n
 
 -- the length byte of a place is the byte where the place begins
 pub length_byte : (s : List ℕ) (q : ℕ) → get_or s q 0 ≡ get_or (part q (q + 32) s) 0 0

@@ -1,7 +1,7 @@
 -- The refusal of any list of bytes by its form: 1, 2, 3, 4 or none, in that order, as document 01's table has them.
-use Rattle.std.specs.Prelude.{Bool, true, cond, not, ◌&&◌, ◌||◌, List, [], ◌∷◌, ◌++◌, ℕ, zero, suc, ◌+◌, ◌*◌, length, get_or, drop, replicate, eqb, leb, Some, None}
-use Rattle.form.specs.declared.Form.{Form}
-use Rattle.form.specs.declared.Form.TheVariants.{Sound, Length, Kind, Value, Unused}
+use Rattle.std.specs.Prelude.{Bool, true, cond, not, ◌&&◌, ◌||◌, List, [], ◌∷◌, ◌++◌, ℕ, zero, suc, ◌+◌, ◌*◌, length, get_or, drop, replicate, eqb, leb, Some, None, Result, Ok, Err}
+use Rattle.form.specs.declared.Flaw.{Flaw}
+use Rattle.form.specs.declared.Flaw.TheVariants.{Length, Kind, Value, Unused}
 use Rattle.form.specs.declared.kind.Values.{Values}
 use Rattle.form.specs.declared.kind.Shape.{Shape}
 use Rattle.record.specs.Limits.{record_size, key_limit, voters_at, spans_at}
@@ -93,10 +93,13 @@ shaped_refusal (Some k) s = cond (values_fit k s) (cond (unused_clear k s) 0 4) 
 unfoldable pub refusal_of : List ℕ → ℕ
 refusal_of s = cond (eqb (length s) record_size) (shaped_refusal (shape_of (byte_at 0 s)) s) 1
 
--- document 01's number of each answer
-abbrev pub form_number : Form → ℕ
-form_number Sound = 0
-form_number Length = 1
-form_number Kind = 2
-form_number Value = 3
-form_number Unused = 4
+-- document 01's number of each flaw, and of an answer, 0 where there is none
+abbrev pub flaw_number : Flaw → ℕ
+flaw_number Length = 1
+flaw_number Kind = 2
+flaw_number Value = 3
+flaw_number Unused = 4
+
+abbrev pub form_number : {A : Type 0} → Result A Flaw → ℕ
+form_number (Ok _) = 0
+form_number (Err flaw) = flaw_number flaw

@@ -2,7 +2,7 @@
 // or 0 where the form is sound. The file stdout is written from the document.
 #![tactic(auto)]
 
-use form::{form_of, number_of};
+use form::{number_of, record_of};
 use std::io;
 
 fn write(rt: &impl Print, text: &[u8]) -> io::Result<()> {
@@ -11,7 +11,7 @@ fn write(rt: &impl Print, text: &[u8]) -> io::Result<()> {
 
 // The refusal of some bytes, and of a record.
 fn refusal(rt: &impl Print, bytes: &[u8]) -> io::Result<()> {
-    let n = number_of(form_of(bytes));
+    let n = record_of(bytes).err().map_or(0, number_of);
     print!(rt; " {n}")
 }
 

@@ -1,11 +1,11 @@
 // The cases of `form.bin`: a length of two bytes, the refusal that its form draws, the bytes.
 use crate::read::{pair, read_full};
 use crate::tally::{Outcome, Tally, counted, is_last, outcome_of};
-use form::{form_of, number_of};
+use form::{number_of, record_of};
 use std::io::Read;
 
 fn judged(bytes: &[u8], refusal: u8) -> Outcome {
-    outcome_of(number_of(form_of(bytes)) == refusal)
+    outcome_of(record_of(bytes).err().map_or(0, number_of) == refusal)
 }
 
 // The bytes of a case, which are length many, are read into the buffer and judged. A case that is cut short counts as

@@ -1,16 +1,20 @@
--- The keys before i are all padded exactly when the flag says so.
-use Rattle.form.proofs.Zeros.{passed_start, passed_turn, passed_end}
+-- Each place is read where it lies.
+use Rattle.std.proofs.lemmas.Iterator.{YieldsList-from_range}
+use Rattle.std.proofs.lemmas.Iterator.Search.{all_from_yields_List}
+use mathlib.Core.Path.{refl, ◌∙◌}
+use mathlib.Core.Bool.{Bool}
+use Prim.Native.Nat.{ℕ, ◌+◌, ◌*◌}
+use native.Mathlib.Omega.{arith}
 use borrow.Author.Rules.{rules}
+use Rattle.record.specs.Limits.{spans_at}
+use Rattle.record.specs.Numbers.{part}
+use Rattle.form.specs.Form.{padded}
+use Rattle.form.proofs.Zeros.{places_at}
 use Rattle.form.proofs.are_padded.Goals as goal
 
-pub loop-i-init : goal.loop-i-init
-loop-i-init c = passed_start _ _ _
-
-pub is_padded-clear-requires : goal.is_padded-clear-requires
-is_padded-clear-requires c = (search rules, c.padding_bits-bits.ensures)
-
-pub loop-i-preserved : goal.loop-i-preserved
-loop-i-preserved c = passed_turn c.loop-i.invariant c.loop-i-test.true _ c.is_padded-clear.ensures
-
 pub returns : goal.returns
-returns c = passed_end c.loop-i.invariant c.loop-i-test.false
+returns c =
+    let s = c.args.rec.now in
+    let test : ℕ → Bool = λ i. padded (part (spans_at + 32 * i) (spans_at + 32 * i + 32) s) in
+    all_from_yields_List test _ _ _ c.all.ensures.ran (YieldsList-from_range 0 c.args.n c.args.n refl (omega arith)) (λ x b q k. search rules)
+    ∙ places_at padded s test (λ i. refl) c.args.n

@@ -19,7 +19,7 @@ loop-i-preserved c =
     let t = c.loop-i in
     let f : get_or s 0 0 ≤ 31 = c.if-size-gt-KEY_LIMIT.false in
     let b : get_or s t.i 0 < 256 = omega (arith, c.type_inv.place t.i) in
-    masked_turn s t.seen t.i _ p.requires.0 f c.index-from.ensures b (omega arith) _ p.requires.1 t.invariant
+    masked_turn s t.seen t.i _ p.requires.0 f c.from-from.ensures b (omega arith) _ p.requires.1 t.invariant
 
 pub returns : goal.returns
 returns c = masked_end c.loop-i.invariant c.requires.0 c.loop-i-test.false

@@ -1,19 +1,21 @@
--- The keys before i all fit exactly when the flag says so; each key's length byte is read where its place begins.
-use mathlib.Core.Path.{ap}
+-- Each key's length byte is read where its place begins.
+use Rattle.std.proofs.lemmas.Iterator.{YieldsList-from_range}
+use Rattle.std.proofs.lemmas.Iterator.Search.{all_from_yields_List}
+use mathlib.Core.Path.{ap, refl, ◌∙◌}
+use mathlib.Core.Bool.{Bool}
 use Prim.Native.Nat.{ℕ, ◌+◌, ◌*◌}
 use lib.Dec.{leb}
+use lib.ListN.{get_or}
+use native.Mathlib.Omega.{arith}
+use borrow.Author.Rules.{rules}
 use Rattle.record.specs.Limits.{spans_at, key_limit}
-use Rattle.form.proofs.Zeros.{passed_start, passed_turn, passed_end, length_byte}
+use Rattle.form.specs.Form.{length_fits}
+use Rattle.form.proofs.Zeros.{places_at, length_byte}
 use Rattle.form.proofs.lengths_fit.Goals as goal
 
-pub loop-i-init : goal.loop-i-init
-loop-i-init c = passed_start _ _ _
-
-pub loop-i-preserved : goal.loop-i-preserved
-loop-i-preserved c =
-    let s = c.args.rec.now in
-    let at = spans_at + 32 * c.loop-i.i in
-    passed_turn c.loop-i.invariant c.loop-i-test.true _ (ap (λ (x : ℕ). leb x key_limit) (length_byte s at))
-
 pub returns : goal.returns
-returns c = passed_end c.loop-i.invariant c.loop-i-test.false
+returns c =
+    let s = c.args.rec.now in
+    let test : ℕ → Bool = λ i. leb (get_or s (spans_at + 32 * i) 0) key_limit in
+    all_from_yields_List test _ _ _ c.all.ensures.ran (YieldsList-from_range 0 c.args.n c.args.n refl (omega arith)) (λ x b q k. search rules)
+    ∙ places_at length_fits s test (λ i. ap (λ (x : ℕ). leb x key_limit) (length_byte s (spans_at + 32 * i))) c.args.n

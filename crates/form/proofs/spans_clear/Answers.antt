@@ -4,4 +4,4 @@ use Rattle.form.proofs.spans_clear.Goals as goal
 
 pub returns : goal.returns
 unfolding spans_clear
-returns c = rw (c.all_zero-2.ensures, c.are_padded.ensures, c.all_zero.ensures, c.index-n.ensures)
+returns c = rw (c.all_zero-2.ensures, c.are_padded.ensures, c.all_zero.ensures, c.from-n.ensures)

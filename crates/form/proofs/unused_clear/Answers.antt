@@ -4,4 +4,4 @@ use Rattle.form.proofs.unused_clear.Goals as goal
 
 pub returns : goal.returns
 unfolding unused_clear
-returns c = rw (c.spans_clear.ensures, c.all_zero-3.ensures, c.all_zero-2.ensures, c.numbers_clear.ensures, c.all_zero.ensures, c.index.ensures)
+returns c = rw (c.spans_clear.ensures, c.all_zero-3.ensures, c.all_zero-2.ensures, c.numbers_clear.ensures, c.all_zero.ensures, c.from.ensures)
