@@ -83,8 +83,9 @@ module _ {A : Type 0} {f : Tells ℕ} {p : Past} {down b : ℕ} (g : ℕ → A)
       → Stands f b p.log.now g x s.next
   along_first {tops} h l y e = stands_first g skip c l y (ap (λ (i : ℕ). i + b) (sym h)) e.next
 
-  pub along_next : {x : A} {s t : Chain} {y : Taken} → OnPast p down s → Goes s y t → Stands f b p.log.now g x s.next → x ≡ g (y.number - 1)
-      → Stands f b p.log.now g x t.next
+  -- the look-back may be another than before the turn, as where it has the best so far beside it
+  pub along_next : {h : ℕ → A} {x z : A} {s t : Chain} {y : Taken} → OnPast p down s → Goes s y t → Stands f b p.log.now h z s.next
+      → x ≡ g (y.number - 1) → Stands f b p.log.now g x t.next
   along_next {s = s} o e w q =
       stands_next g skip c (omega (arith, e.some, o.within)) p.within (w.here e.some) (q ∙ ap (λ (n : ℕ). g (n - 1)) e.number) refl
       (e.next ∙ ap (λ (n : ℕ). clamp n (s.next - 1)) (link_word o e (omega (arith, o.within, p.within))))
