@@ -1,2 +1,2 @@
--- What is proved of events as numbers.
+-- What is proved of events as a number, and of refusal 11.
 pub mod Numbers

@@ -1,2 +1,2 @@
--- What the code of events keeps as numbers.
+-- What the code of events keeps as a number.
 pub mod Numbers

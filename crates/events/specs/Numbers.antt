@@ -1,6 +1,5 @@
--- The number of events as a word of a judge, and a record's mark and node as one number.
-use Rattle.std.specs.Prelude.{cond, ◌||◌, ℕ, ◌+◌, eqb, Some, None}
-use Rattle.record.specs.Named.{Node}
+-- The number of events as a word of a judge.
+use Rattle.std.specs.Prelude.{cond, ◌||◌, ℕ, ◌+◌, eqb}
 use Rattle.record.specs.Records.{TraceRecord}
 use Rattle.rules.specs.Events.{continues}
 
@@ -12,8 +11,3 @@ most = 18446744073709551615
 -- run reaches
 abbrev pub event_in : ℕ → TraceRecord → ℕ
 event_in n x = cond (continues x || eqb n most) n (n + 1)
-
--- a record's mark and node: 0 where it is not marked
-abbrev pub node_number : Node → ℕ
-node_number (Some n) = n.0 + 1
-node_number None = 0

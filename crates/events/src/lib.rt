@@ -5,7 +5,7 @@ ghost use Rattle.std.specs.Prelude.{◌≡◌, ◌*◌, ◌≤◌, length};
 ghost use Rattle.record.specs.Records.{decode};
 ghost use Rattle.rules.specs.Events.{continues, goes_on, stray};
 ghost use Rattle.history.specs.Logs.{hist};
-ghost use Rattle.events.specs.Numbers.{node_number, event_in};
+ghost use Rattle.events.specs.Numbers.{event_in};
 
 use history::log::record_at;
 use record::Record;
@@ -14,9 +14,6 @@ use record::field::{b, flag, kind, node};
 // MetaApplied, the one kind whose records continue.
 const META_APPLIED: u8 = 12;
 
-// The greatest number of a word.
-const MOST: u64 = 0xffff_ffff_ffff_ffff;
-
 // Whether a record continues the event before it.
 pub fn continues(rec: &Record) -> bool
     ensures { result ≡ continues (decode rec.now) }
@@ -24,43 +21,29 @@ pub fn continues(rec: &Record) -> bool
     (kind(rec) == META_APPLIED) & (flag(rec) == 1)
 }
 
-// How many events there are with one more record, after so many.
+// How many events there are with one more record, after so many: in a word, whose greatest number stays.
 pub fn event_after(events: u64, rec: &Record) -> u64
     ensures { result ≡ event_in events (decode rec.now) }
 {
-    if continues(rec) | (events == MOST) {
-        return events;
-    }
-    events + 1
-}
-
-// A record's mark and node as one number: 0 where it is not marked.
-fn node_number(rec: &Record) -> u64
-    ensures { result ≡ node_number (decode rec.now).node }
-{
-    match node(rec) {
-        Some(n) => n.0 as u64 + 1,
-        None => 0,
+    if continues(rec) {
+        events
+    } else {
+        events.saturating_add(1)
     }
 }
 
 // Whether a record goes on with the event of the one before it.
-fn goes_on<'a>(rec: &'a Record, last: &'a Record) -> bool
+fn goes_on(rec: &Record, last: &Record) -> bool
     ensures { result ≡ goes_on (decode rec.now) (decode last.now) }
 {
-    (kind(last) == META_APPLIED) & (node_number(rec) == node_number(last)) & (b(rec) == b(last))
+    (kind(last) == META_APPLIED) & (node(rec) == node(last)) & (b(rec) == b(last))
 }
 
 // Refusal 11: whether a record that continues has no event to continue, after the first n of a log.
-pub fn stray<'a>(log: &'a [u8], n: usize, rec: &'a Record) -> bool
+#[tactic(auto, using(crate::proofs::Numbers::stray_first, crate::proofs::Numbers::stray_after))]
+pub fn stray(log: &[u8], n: usize, rec: &Record) -> bool
     requires { 368 * n ≤ length log.now }
     ensures { result ≡ stray (decode rec.now) (hist log.now n) }
 {
-    if !continues(rec) {
-        return false;
-    }
-    if n == 0 {
-        return true;
-    }
-    !goes_on(rec, record_at(log, n - 1))
+    continues(rec) && (n == 0 || !goes_on(rec, record_at(log, n - 1)))
 }
