@@ -7,8 +7,8 @@ use denote.Param.Members.{Mut, Called}
 use denote.Ref.{Bor}
 use Rattle.std.proofs.lemmas.Option.{MatchOption-at_some}
 use Rattle.std.specs.Prelude.{Option, None, Some, MatchOption, is_some}
-use Rattle.std.specs.Fn.{CalledAt}
-use Rattle.std.specs.Iterator.{Yields, YieldsThen, FindsItem, ChecksAny}
+use Rattle.std.specs.Fn.{CalledAt, Takes, TakesAt}
+use Rattle.std.specs.Iterator.{Yields, YieldsThen, FindsItem, ChecksAny, CallableAtEachTurn, CallableWhile, CallableWhileAt}
 use Rattle.std.specs.List.{FoldsTo}
 use Rattle.rules.specs.History.{Tells}
 use Rattle.history.specs.declared.past.Past.{Past}
@@ -32,6 +32,13 @@ module _ {F : Type 0} (R : F → Taken → Bool → F → Type 0) {f : F} {test 
       → OnPast p down t × (f' ≡ f)
   passed_on [] t f' o y e = (subst (OnPast p down) y o, sym e)
   passed_on (x ∷ xs) t f' o y e = passed_on xs t f' (on_next o y.1) y.2 (subst (λ h. PassesOver R h xs f') (calls x false e.0 e.1).0 e.2)
+
+  -- at each turn a closure may be called that may be called at every record taken
+  serves : {Q : F → Taken → Type 0} {s : Chain} → OnPast p down s → ((x : Taken) → IsTaken p x → Q f x)
+      → CallableAtEachTurn Steps (λ h x q. R h x false q) Q s f
+  serves {Q} o ask = record {
+    at = λ xs t h x u y e n. let w = passed_on xs t h o y e in subst (λ (q : F). Q q x) (sym w.1) (ask x (taken_on w.0 n));
+  }
 
   -- what is found is a record taken
   pub found_taken : (r : Option Taken) (u : Chain) {s : Chain} → OnPast p down s → (xs : List Taken) × (f' : F) × YieldsThen Steps s xs r u × PassesOver R f xs f'
@@ -76,6 +83,9 @@ module _ {F : Type 0} (R : F → Taken → Bool → F → Type 0) {f : F} {test 
 
 -- `find`
 module _ {F : Type 0} {g : Mut F (Bor Taken × Unit {0}) Bool} {f : F} {test : Taken → Bool} (calls : Tests (CalledAt g) f test) {p : Past} {down : ℕ} where
+  pub find_serves : {s : Chain} → OnPast p down s → ((x : Taken) → IsTaken p x → TakesAt g f x) → CallableWhileAt Steps g false s f
+  find_serves = serves (CalledAt g) calls
+
   pub find_taken : (r : Option Taken) (u : Chain) {s : Chain} → OnPast p down s → FindsItem Steps g s f r u → IsFound p r
   find_taken r u o e = found_taken (CalledAt g) calls r u o (e.0, e.1, e.2, e.3)
 
@@ -92,6 +102,9 @@ module _ {F : Type 0} {g : Mut F (Bor Taken × Unit {0}) Bool} {f : F} {test : T
 -- `any`
 module _ {F : Type 0} {g : Mut F (Taken × Unit {0}) Bool} {f : F} {test : Taken → Bool} (calls : Tests (λ h x b q. Called g h (x, tt) b q) f test)
     {p : Past} {down : ℕ} where
+  pub any_serves : {s : Chain} → OnPast p down s → ((x : Taken) → IsTaken p x → Takes g f (x, tt)) → CallableWhile Steps g false s f
+  any_serves = serves (λ h x b q. Called g h (x, tt) b q) calls
+
   pub any_is : {at : Tells ℕ} {b : ℕ} (look : ℕ → Bool) → ((k : ℕ) → (In at b p.log.now k → ⊥) → look (suc k) ≡ look k)
       → {heads : ℕ} → Chained at heads (down * p.cap) p.cap (taken p) p.work.now
       → ((y : Taken) → IsTaken p y → test y ≡ false → look y.number ≡ look (y.number - 1))

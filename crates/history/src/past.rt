@@ -3,7 +3,7 @@ ghost use Rattle.std.specs.Prelude.{◌*◌, ◌≤◌, ◌<◌, length};
 
 use crate::chain::link;
 use crate::log::record_at;
-use crate::walk::Chain;
+use crate::walk::{Chain, Taken};
 use record::Record;
 
 // Lengths alone are asked for: every look-back is safe and ends whatever the log and the work area hold.
@@ -24,7 +24,7 @@ impl<'a> Past<'a> {
     ghost use Rattle.std.specs.Prelude.{◌≡◌, ◌+◌, get_or};
     ghost use Rattle.history.specs.Logs.{bytes_at};
     ghost use Rattle.history.specs.Columns.{clamp};
-    ghost use Rattle.history.specs.Pasts.{Begins};
+    ghost use Rattle.history.specs.Pasts.{Begins, IsFound, number_of};
 
     // The record at a place.
     pub fn record(&self, i: usize) -> &'a Record
@@ -32,6 +32,18 @@ impl<'a> Past<'a> {
         ensures { result.now ≡ bytes_at i self.now.log.now }
     {
         record_at(self.log, i)
+    }
+
+    // The record with a number, where there is one: none has 0, nor a number above the count.
+    pub fn numbered(&self, number: usize) -> Option<Taken<'a>>
+        ensures found { IsFound self.now result }
+        ensures is { number_of result ≡ clamp number self.now.count }
+    {
+        if number == 0 || self.count < number {
+            return None;
+        }
+        let record = self.record(number - 1);
+        Some(Taken { number, record })
     }
 
     // The word at a place of a column.
