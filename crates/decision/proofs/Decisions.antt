@@ -4,7 +4,7 @@ use mathlib.Core.Path.{◌≡◌, refl, sym, ap, ◌∙◌}
 use mathlib.Core.Bool.{Bool, true, false, cond}
 use mathlib.Core.List.{List}
 use mathlib.Core.Logic.{inl, inr}
-use Prim.Native.Nat.{ℕ, zero, suc, ◌+◌, ◌≤◌, ◌<◌}
+use Prim.Native.Nat.{ℕ, zero, suc, ◌≤◌, ◌<◌}
 use native.Mathlib.Omega.{arith}
 use native.Mathlib.Decide.{ℕ_discrete}
 use lib.ListN.{length}
@@ -21,63 +21,28 @@ use Rattle.rules.specs.Events.{stray}
 use Rattle.history.specs.Bounds.{Bounds}
 use Rattle.history.specs.Logs.{hist}
 use Rattle.history.proofs.Logs.{hist_length}
-use Rattle.decision.specs.Refusals.{suits_by, or_next, refusal_after, push_refusal_by, PushNumber, concerned_bits, decided, sound_by}
+use Rattle.decision.specs.Refusals.{suits_by, or_next, refusal_after, push_refusal_by, PushNumber}
 use Rattle.decision.proofs.Suiting.{Suiting, suiting, bounded}
-use Rattle.decision.proofs.Bits.{bits_small}
 
--- ---- each way to decide
+-- ---- what a push is refused for, where the judge's numbers and the lengths suit
 
-module _ (cap count : ℕ) (log : List ℕ) (words : ℕ) (bytes : List ℕ) (kind : ℕ) where
-  -- the table over the records of the log
-  abbrev table : ℕ
-  table = refusal_after cap (hist log count) bytes
-
-  pub decided_unfit : suits_by cap count (length log) words ≡ false → 261 ≡ decided (push_refusal_by cap count log words bytes) kind
-  decided_unfit e = sym (ap (λ (b : Bool). decided (cond b table 5) kind) e)
-
-  suited : suits_by cap count (length log) words ≡ true → decided (push_refusal_by cap count log words bytes) kind ≡ decided table kind
-  suited e = ap (λ (b : Bool). decided (cond b table 5) kind) e
+module _ (cap count : ℕ) (log : List ℕ) (words : ℕ) (bytes : List ℕ) (suited : suits_by cap count (length log) words ≡ true) where
+  by_table : refusal_after cap (hist log count) bytes ≡ push_refusal_by cap count log words bytes
+  by_table = sym (ap (λ (b : Bool). cond b (refusal_after cap (hist log count) bytes) 5) suited)
 
   -- a form that draws a refusal
-  pub decided_form : (f : ℕ) → (f ≡ 0 → ⊥) → suits_by cap count (length log) words ≡ true → refusal_of bytes ≡ f
-      → 256 + f ≡ decided (push_refusal_by cap count log words bytes) kind
-  decided_form f n e r =
-      let z : eqb f 0 ≡ false = ne_eqb f 0 n in
+  pub drawn : {f : ℕ} → (f ≡ 0 → ⊥) → refusal_of bytes ≡ f → f ≡ push_refusal_by cap count log words bytes
+  drawn {f} n e =
       let lost = stray (decode bytes) (hist log count) in
       let full = eqb (length (hist log count)) cap in
-      sym (suited e
-      ∙ ap (λ (g : ℕ). decided (or_next g lost full) kind) r
-      ∙ ap (λ (b : Bool). decided (cond b (cond lost 11 (cond full 6 0)) f) kind) z
-      ∙ ap (λ (b : Bool). cond b (concerned_bits kind) (256 + f)) z)
+      sym (ap (λ (g : ℕ). or_next g lost full) e ∙ ap (λ (b : Bool). cond b (cond lost 11 (cond full 6 0)) f) (ne_eqb f 0 n)) ∙ by_table
 
-  -- the rest, by the checks that the kind concerns
-  pub decided_sound : {r concerned : ℕ} → suits_by cap count (length log) words ≡ true → concerned ≡ concerned_bits kind
-      → r ≡ sound_by (refusal_of bytes) (stray (decode bytes) (hist log count)) (eqb count cap) concerned
-      → r ≡ decided (push_refusal_by cap count log words bytes) kind
-  decided_sound e q u =
-      let lost = stray (decode bytes) (hist log count) in
-      let many : count ≡ length (hist log count) = sym (hist_length log count) in
-      u
-      ∙ ap (sound_by (refusal_of bytes) lost (eqb count cap)) q
-      ∙ ap (λ (k : ℕ). sound_by (refusal_of bytes) lost (eqb k cap) (concerned_bits kind)) many
-      ∙ sym (suited e)
-
--- what stands in `sound`, refusal by refusal
-module _ (form : ℕ) (lost full : Bool) (concerned : ℕ) where
-  pub sound_form : (form ≡ 0 → ⊥) → 256 + form ≡ sound_by form lost full concerned
-  sound_form n =
-      let z : eqb form 0 ≡ false = ne_eqb form 0 n in
-      let next : Bool → ℕ = λ b. cond b (cond lost 11 (cond full 6 0)) form in
-      sym (ap (λ (b : Bool). cond (eqb (next b) 0) concerned (256 + next b)) z ∙ ap (λ (b : Bool). cond b concerned (256 + form)) z)
-
-  pub sound_lost : form ≡ 0 → lost ≡ true → 267 ≡ sound_by form lost full concerned
-  sound_lost e f = sym (rw (e, f))
-
-  pub sound_full : form ≡ 0 → lost ≡ false → full ≡ true → 262 ≡ sound_by form lost full concerned
-  sound_full e f g = sym (rw (e, f, g))
-
-  pub sound_clear : form ≡ 0 → lost ≡ false → full ≡ false → concerned ≡ sound_by form lost full concerned
-  sound_clear e f g = sym (rw (e, f, g))
+  -- a form that draws none, of a record that has an event to continue or begins one: the room is left to ask for
+  pub roomed : {full : Bool} → refusal_of bytes ≡ 0 → stray (decode bytes) (hist log count) ≡ false → eqb count cap ≡ full
+      → cond full 6 0 ≡ push_refusal_by cap count log words bytes
+  roomed {full} e g f =
+      let many : length (hist log count) ≡ count = hist_length log count in
+      sym (rw (e, g, many, f)) ∙ by_table
 
 -- a kind that is none of document 01's
 unknown_kind : (kind : ℕ) → (1 ≤ kind → kind ≤ 12 → ⊥) → shape_of kind ≡ None
@@ -86,31 +51,6 @@ unknown_kind (suc k) n = past (suc k) (let m = n (omega arith) in omega arith)
 
 pub wrong_kind : (bytes : List ℕ) → length bytes ≡ 368 → (1 ≤ byte_at 0 bytes → byte_at 0 bytes ≤ 12 → ⊥) → refusal_of bytes ≡ 2
 wrong_kind bytes l n = by_shape bytes l None (unknown_kind (byte_at 0 bytes) n)
-
--- ---- what a decision says
-
-module _ (refusal kind : ℕ) where
-  -- below 256 there is no refusal, and the checks' bits
-  decided_by : (b : Bool) → eqb refusal 0 ≡ b → (256 ≤ cond b (concerned_bits kind) (256 + refusal) → ⊥)
-      → (refusal ≡ 0) × (cond b (concerned_bits kind) (256 + refusal) ≡ concerned_bits kind)
-  decided_by true e n = (eqb-true _ _ e, refl)
-  decided_by false e n = absurd (n (omega arith))
-
-  pub decided_taken : {d : ℕ} → d ≡ decided refusal kind → (256 ≤ d → ⊥) → (refusal ≡ 0) × (d ≡ concerned_bits kind)
-  decided_taken q n =
-      let w = decided_by (eqb refusal 0) refl (λ l. n (omega arith)) in
-      (w.0, q ∙ w.1)
-
-  -- from 256 on there is one, and its number
-  refused_by : (b : Bool) → eqb refusal 0 ≡ b → 256 ≤ cond b (concerned_bits kind) (256 + refusal)
-      → (cond b (concerned_bits kind) (256 + refusal) ≡ 256 + refusal) × (refusal ≡ 0 → ⊥)
-  refused_by true e l = absurd (let m = bits_small kind in omega arith)
-  refused_by false e l = (refl, eqb-false _ _ e)
-
-  pub decided_refused : {d : ℕ} → d ≡ decided refusal kind → 256 ≤ d → (d ≡ 256 + refusal) × (refusal ≡ 0 → ⊥)
-  decided_refused q l =
-      let w = refused_by (eqb refusal 0) refl (omega arith) in
-      (q ∙ w.0, w.1)
 
 -- ---- what a record that is not refused has
 

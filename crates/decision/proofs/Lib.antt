@@ -1,4 +1,3 @@
--- What is proved of a decision: what the test of the judge's numbers says, the bits of the checks, and each refusal.
+-- What is proved of a decision: what the test of the judge's numbers says, and each refusal.
 pub mod Suiting
-pub mod Bits
 pub mod Decisions

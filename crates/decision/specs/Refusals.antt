@@ -1,11 +1,33 @@
--- What a push is refused for, by the judge's numbers, the lengths and the record's bytes; and what is decided of a record.
-use Rattle.std.specs.Prelude.{◌≡◌, Bool, cond, ◌&&◌, List, [], ◌∷◌, ◌⊎◌, ℕ, ◌+◌, ◌*◌, ◌≤◌, length, eqb, leb}
+-- The refusals' numbers; what a push is refused for, by the judge's numbers, the lengths and the record's bytes; and which checks a record
+-- concerns.
+use Rattle.std.specs.Prelude.{◌≡◌, Bool, cond, ◌&&◌, List, ◌⊎◌, ℕ, ◌*◌, ◌≤◌, length, eqb, leb, Result, Ok, Err}
 use Rattle.form.specs.Form.{refusal_of}
 use Rattle.record.specs.Records.{decode}
 use Rattle.rules.specs.History.{History}
 use Rattle.rules.specs.Events.{stray}
-use Rattle.rules.specs.Checks.{Check, checks, concerned_by}
+use Rattle.rules.specs.Checks.{check_at, concerned_by}
 use Rattle.history.specs.Logs.{hist}
+use Rattle.decision.specs.declared.Concerned.{Concerned}
+use Rattle.decision.specs.declared.refusal.Refusal.{Refusal}
+use Rattle.decision.specs.declared.refusal.Refusal.TheVariants.{Length, Kind, Value, Unused, Judge, Full, Opening, Output, Ticket, Event}
+
+-- document 01's and 02's numbers of the refusals
+abbrev pub refusal_number : Refusal → ℕ
+refusal_number Length = 1
+refusal_number Kind = 2
+refusal_number Value = 3
+refusal_number Unused = 4
+refusal_number Judge = 5
+refusal_number Full = 6
+refusal_number Opening = 7
+refusal_number Output = 8
+refusal_number Ticket = 10
+refusal_number Event = 11
+
+-- the number of what a call came to, 0 where it was not refused
+abbrev pub outcome_number : {A : Type 0} → Result A Refusal → ℕ
+outcome_number (Ok x) = 0
+outcome_number (Err refusal) = refusal_number refusal
 
 -- refusal 5: "the judge's C is above 4,096, log or work lengths are not those of C, or its count exceeds C"; "reports take the
 -- judge alone and test 5 by C and count"
@@ -33,18 +55,15 @@ push_refusal_by capacity count log words bytes =
 abbrev pub PushNumber : ℕ → Type 0
 PushNumber r = (r ≤ 6) ⊎ (r ≡ 11)
 
--- the checks of a list that a record of a kind concerns, as a sum of bits: w for the first, and twice as much for each next
-unfoldable pub bits_from : ℕ → ℕ → List Check → ℕ
-bits_from w kind [] = 0
-bits_from w kind (c ∷ cs) = cond (concerned_by kind c) w 0 + bits_from (2 * w) kind cs
-
-unfoldable pub concerned_bits : ℕ → ℕ
-concerned_bits kind = bits_from 1 kind checks
-
--- what is decided of a record: the checks that it concerns; or, above their bits, the number of its refusal
-abbrev pub decided : ℕ → ℕ → ℕ
-decided refusal kind = cond (eqb refusal 0) (concerned_bits kind) (256 + refusal)
-
--- the same where 5 and 2 are out of question
-abbrev pub sound_by : ℕ → Bool → Bool → ℕ → ℕ
-sound_by form lost full concerned = cond (eqb (or_next form lost full) 0) concerned (256 + or_next form lost full)
+-- the checks that a record of a kind concerns, each by its place in the table
+abbrev pub concerned_of : ℕ → Concerned
+concerned_of kind = record {
+  agreement = concerned_by kind (check_at 0);
+  overlap = concerned_by kind (check_at 1);
+  install = concerned_by kind (check_at 2);
+  twice = concerned_by kind (check_at 3);
+  half = concerned_by kind (check_at 4);
+  generations = concerned_by kind (check_at 5);
+  ids = concerned_by kind (check_at 6);
+  meta = concerned_by kind (check_at 7);
+}

@@ -1,16 +1,17 @@
 // What is decided of a record: the refusal that it draws, or the checks that it concerns.
 #![tactic(auto)]
 
-ghost use Rattle.std.specs.Prelude.{◌≡◌, ◌*◌, ◌≤◌, length, eqb};
-ghost use Rattle.form.specs.Form.{refusal_of};
-ghost use Rattle.record.specs.Numbers.{byte_at};
-ghost use Rattle.record.specs.Records.{decode};
-ghost use Rattle.rules.specs.Events.{stray};
-ghost use Rattle.history.specs.Logs.{hist};
-ghost use Rattle.decision.specs.Refusals.{suits_by, sound_by, push_refusal_by, decided};
+pub mod refusal;
 
+ghost use Rattle.std.specs.Prelude.{◌≡◌, ◌≤◌, IfOk, MatchResult};
+ghost use Rattle.record.specs.Numbers.{byte_at};
+ghost use Rattle.decision.specs.declared.refusal.Refusal.TheVariants.{Kind};
+ghost use Rattle.decision.specs.Refusals.{suits_by, outcome_number, push_refusal_by, concerned_of};
+
+use crate::refusal::Refusal;
 use events::stray;
-use form::{form_of, number_of};
+use form::record_of;
+use record::Record;
 use record::limits::RECORD_SIZE;
 
 // The largest capacity, and the words of the work area for each record.
@@ -18,76 +19,114 @@ pub const CAPACITY: usize = 4096;
 
 pub const WORDS: usize = 32;
 
-// The bit of each check, in the table's order.
-pub const AGREEMENT: u64 = 1;
+// Whether a record concerns each check, by the checks' names.
+#[derive(Clone, Copy, PartialEq, Eq)]
+pub struct Concerned {
+    pub agreement: bool,
+    pub overlap: bool,
+    pub install: bool,
+    pub twice: bool,
+    pub half: bool,
+    pub generations: bool,
+    pub ids: bool,
+    pub meta: bool,
+}
 
-pub const OVERLAP: u64 = 2;
+const NO_CHECK: Concerned = Concerned {
+    agreement: false,
+    overlap: false,
+    install: false,
+    twice: false,
+    half: false,
+    generations: false,
+    ids: false,
+    meta: false,
+};
 
-pub const INSTALL: u64 = 4;
-
-pub const TWICE: u64 = 8;
-
-pub const HALF: u64 = 16;
-
-pub const GENERATIONS: u64 = 32;
-
-pub const IDS: u64 = 64;
-
-pub const META: u64 = 128;
-
-// What stands above the checks' bits is a refusal's number.
-pub const REFUSED: u64 = 256;
+// The bytes of a record that is not refused, and the checks that it concerns.
+#[derive(Clone, Copy)]
+pub struct Decided<'a> {
+    pub record: &'a Record,
+    pub concerned: Concerned,
+}
 
 // Whether the numbers are a judge's, and the lengths of log and work area those of its capacity. The capacity's test comes first,
 // so that the products fit.
 pub fn suits(cap: usize, count: usize, logs: usize, words: usize) -> bool
     ensures { result ≡ suits_by cap count logs words }
 {
-    if !((cap <= CAPACITY) & (count <= cap)) {
-        return false;
-    }
-    (logs == RECORD_SIZE * cap) & (words == WORDS * cap)
+    cap <= CAPACITY && count <= cap && logs == RECORD_SIZE * cap && words == WORDS * cap
 }
 
-// The checks that the record concerns, if its values, its unused places, the event that it continues and the room for it are as they
-// should be: else 3, 4, 11 or 6.
-fn sound<'a>(log: &'a [u8], rec: &'a [u8], count: usize, cap: usize, concerned: u64) -> u64
-    requires { 368 * count ≤ length log.now }
-    ensures { result ≡ sound_by (refusal_of rec.now) (stray (decode rec.now) (hist log.now count)) (eqb count cap) concerned }
+// The checks that a record of a kind concerns, named by the arm of that kind; a number that no kind has draws refusal 2.
+fn concerned_of(kind: u8) -> Result<Concerned, Refusal>
+    ensures { MatchResult result (λ concerned. concerned ≡ concerned_of kind) (λ refusal. (refusal ≡ Kind) × (1 ≤ kind → kind ≤ 12 → ⊥)) }
 {
-    let form = number_of(form_of(rec)) as u64;
-    if form != 0 {
-        return REFUSED + form;
+    match kind {
+        1 => Ok(Concerned {
+            agreement: true,
+            overlap: true,
+            twice: true,
+            half: true,
+            ..NO_CHECK
+        }),
+        2 => Ok(Concerned {
+            agreement: true,
+            overlap: true,
+            half: true,
+            ..NO_CHECK
+        }),
+        3 => Ok(Concerned {
+            half: true,
+            generations: true,
+            ..NO_CHECK
+        }),
+        5 => Ok(Concerned {
+            half: true,
+            ..NO_CHECK
+        }),
+        8 => Ok(Concerned {
+            install: true,
+            ..NO_CHECK
+        }),
+        11 => Ok(Concerned {
+            ids: true,
+            ..NO_CHECK
+        }),
+        12 => Ok(Concerned {
+            meta: true,
+            ..NO_CHECK
+        }),
+        4 | 6..=7 | 9..=10 => Ok(NO_CHECK),
+        _ => Err(Refusal::Kind),
     }
-    if stray(log, count, rec) {
-        return REFUSED + 11;
-    }
-    if count == cap {
-        return REFUSED + 6;
-    }
-    concerned
 }
 
-// Decides by the record's kind: each arm names the checks that such a record concerns. Refusals come in the order 5, 1, 2, 3, 4, 11, 6.
-pub fn decide<'a>(log: &'a [u8], words: usize, count: usize, cap: usize, rec: &'a [u8]) -> u64
-    ensures { result ≡ decided (push_refusal_by cap count log.now words rec.now) (byte_at 0 rec.now) }
+// Decides by the judge's numbers, the record's kind and form, the event that it continues and the room for it. Refusals come in the order
+// 5, 1, 2, 3, 4, 11, 6.
+pub fn decide<'a>(
+    log: &[u8],
+    words: usize,
+    count: usize,
+    cap: usize,
+    bytes: &'a [u8],
+) -> Result<Decided<'a>, Refusal>
+    ensures refused { outcome_number result ≡ push_refusal_by cap count log.now words bytes.now }
+    ensures taken { IfOk result (λ decided. (decided.record.now ≡ bytes.now) × (decided.concerned ≡ concerned_of (byte_at 0 bytes.now))) }
 {
     if !suits(cap, count, log.len(), words) {
-        return REFUSED + 5;
+        return Err(Refusal::Judge);
     }
-    if rec.len() != RECORD_SIZE {
-        return REFUSED + 1;
+    if bytes.len() != RECORD_SIZE {
+        return Err(Refusal::Length);
     }
-    let kind = rec[0];
-    match kind {
-        1 => sound(log, rec, count, cap, AGREEMENT + OVERLAP + TWICE + HALF),
-        2 => sound(log, rec, count, cap, AGREEMENT + OVERLAP + HALF),
-        3 => sound(log, rec, count, cap, HALF + GENERATIONS),
-        5 => sound(log, rec, count, cap, HALF),
-        8 => sound(log, rec, count, cap, INSTALL),
-        11 => sound(log, rec, count, cap, IDS),
-        12 => sound(log, rec, count, cap, META),
-        4 | 6..=7 | 9..=10 => sound(log, rec, count, cap, 0),
-        _ => REFUSED + 2,
+    let concerned = concerned_of(bytes[0])?;
+    let record = record_of(bytes)?;
+    if stray(log, count, record) {
+        return Err(Refusal::Event);
     }
+    if count == cap {
+        return Err(Refusal::Full);
+    }
+    Ok(Decided { record, concerned })
 }
