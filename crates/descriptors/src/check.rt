@@ -283,7 +283,14 @@ fn last_of(log: &[u8], work: &[u64], count: usize, cap: usize, range: u64, gener
 }
 
 // The case of a put at an index where no value stood.
-fn new_put_case(log: &[u8], work: &[u64], count: usize, cap: usize, rec: &[u8], index: u64) -> Option<Fault>
+fn new_put_case(
+    log: &[u8],
+    work: &[u64],
+    count: usize,
+    cap: usize,
+    rec: &[u8],
+    index: u64,
+) -> Option<Fault>
     requires { Bounds log.now work.now count cap × (length rec.now ≡ 368) }
     ensures { DescriptorsIndexed cap (hist log.now count) work.now → role_of (decode rec.now) (hist log.now count) ≡ puts index → any_of (same_place (entry_at index (decode rec.now) (hist log.now count))) (standing (hist log.now count)) ≡ false → agreement (hist log.now count) ≡ None → result ≡ agreement (decode rec.now ∷ hist log.now count) }
 {
@@ -297,7 +304,14 @@ fn new_put_case(log: &[u8], work: &[u64], count: usize, cap: usize, rec: &[u8], 
 }
 
 // The case of a put at an index.
-fn put_case(log: &[u8], work: &[u64], count: usize, cap: usize, rec: &[u8], index: u64) -> Option<Fault>
+fn put_case(
+    log: &[u8],
+    work: &[u64],
+    count: usize,
+    cap: usize,
+    rec: &[u8],
+    index: u64,
+) -> Option<Fault>
     requires { Bounds log.now work.now count cap × (length rec.now ≡ 368) }
     ensures { DescriptorsIndexed cap (hist log.now count) work.now → role_of (decode rec.now) (hist log.now count) ≡ puts index → agreement (hist log.now count) ≡ None → result ≡ agreement (decode rec.now ∷ hist log.now count) }
 {

@@ -234,7 +234,14 @@ pub fn at(log: &[u8], work: &[u64], count: usize, cap: usize, range: u64, index:
 }
 
 // The value in force before an index of a range: the one at the index before it.
-pub fn before(log: &[u8], work: &[u64], count: usize, cap: usize, range: u64, index: u64) -> Option<u64>
+pub fn before(
+    log: &[u8],
+    work: &[u64],
+    count: usize,
+    cap: usize,
+    range: u64,
+    index: u64,
+) -> Option<u64>
     requires { Bounds log.now work.now count cap }
     ensures { DescriptorsIndexed cap (hist log.now count) work.now → result ≡ found_by (before range index (hist log.now count)) }
 {

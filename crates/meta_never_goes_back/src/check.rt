@@ -16,7 +16,13 @@ use rules::Fault;
 
 // The meta case of a record over those of the log, while the report is a pass: its descriptor first, then the keys that it
 // won.
-pub fn meta<'a>(log: &'a [u8], work: &[u64], count: usize, cap: usize, rec: &'a [u8]) -> Option<Fault>
+pub fn meta<'a>(
+    log: &'a [u8],
+    work: &[u64],
+    count: usize,
+    cap: usize,
+    rec: &'a [u8],
+) -> Option<Fault>
     requires { Bounds log.now work.now count cap × (length rec.now ≡ 368) }
     ensures { DescriptorsIndexed cap (hist log.now count) work.now → MetaIndexed cap (hist log.now count) work.now → (report_of (at_last meta_at) (hist log.now count)).verdict ≡ Pass → result ≡ meta_at (decode rec.now) (hist log.now count) }
 {

@@ -35,7 +35,13 @@ fn differing_case(log: &[u8], count: usize, number: u64, rec: &[u8]) -> Option<F
 }
 
 // The case of a record's descriptor: its range has none of that generation, or one that differs.
-pub fn descriptor_case(log: &[u8], work: &[u64], count: usize, cap: usize, rec: &[u8]) -> Option<Fault>
+pub fn descriptor_case(
+    log: &[u8],
+    work: &[u64],
+    count: usize,
+    cap: usize,
+    rec: &[u8],
+) -> Option<Fault>
     requires { Bounds log.now work.now count cap × (length rec.now ≡ 368) }
     ensures { DescriptorsIndexed cap (hist log.now count) work.now → result ≡ named_fault (decode rec.now) (first_at_generation (decode rec.now).a (decode rec.now).d (hist log.now count)) }
 {

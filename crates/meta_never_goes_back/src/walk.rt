@@ -77,7 +77,13 @@ fn key_case(log: &[u8], standing: usize, rec: &[u8]) -> Option<Fault>
 
 // The fault of the won span: piece by piece in key order, each against the name that stands there, up to the first faulty
 // one. A piece begins at the cursor and goes up to the next end of a name.
-fn walk_case<'a>(log: &'a [u8], work: &[u64], count: usize, cap: usize, rec: &'a [u8]) -> Option<Fault>
+fn walk_case<'a>(
+    log: &'a [u8],
+    work: &[u64],
+    count: usize,
+    cap: usize,
+    rec: &'a [u8],
+) -> Option<Fault>
     requires { Bounds log.now work.now count cap × (length rec.now ≡ 368) }
     ensures { MetaIndexed cap (hist log.now count) work.now → result ≡ won_fault (decode rec.now) (names (hist log.now count)) }
 {
@@ -112,7 +118,13 @@ fn walk_case<'a>(log: &'a [u8], work: &[u64], count: usize, cap: usize, rec: &'a
 }
 
 // The case of the keys that a record wins, while the report is a pass.
-pub fn won_case<'a>(log: &'a [u8], work: &[u64], count: usize, cap: usize, rec: &'a [u8]) -> Option<Fault>
+pub fn won_case<'a>(
+    log: &'a [u8],
+    work: &[u64],
+    count: usize,
+    cap: usize,
+    rec: &'a [u8],
+) -> Option<Fault>
     requires { Bounds log.now work.now count cap × (length rec.now ≡ 368) }
     ensures { MetaIndexed cap (hist log.now count) work.now → (report_of (at_last meta_at) (hist log.now count)).verdict ≡ Pass → result ≡ fault_if (is_won (decode rec.now)) (won_fault (decode rec.now) (names (hist log.now count))) }
 {

@@ -63,7 +63,14 @@ fn replaced_case(
 }
 
 // install: the first span of a kind 8 that names no group and meets a range that no start in the record names.
-pub fn install(log: &[u8], work: &[u64], count: usize, cap: usize, rec: &[u8], tenant: u64) -> Option<Fault>
+pub fn install(
+    log: &[u8],
+    work: &[u64],
+    count: usize,
+    cap: usize,
+    rec: &[u8],
+    tenant: u64,
+) -> Option<Fault>
     requires { Bounds log.now work.now count cap × (length rec.now ≡ 368) }
     ensures { OwnersIndexed cap (hist log.now count) work.now → result ≡ install_at tenant (decode rec.now) (hist log.now count) }
 {

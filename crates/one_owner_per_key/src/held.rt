@@ -136,9 +136,5 @@ pub fn held_by(
     let last = latest_of(log, work, count, cap, top, node);
     let ended = end_by(work, cap, last);
     let k = held_after(log, work, count, cap, top, node, range, ended);
-    if k == 0 {
-        None
-    } else {
-        Some(k as u64)
-    }
+    if k == 0 { None } else { Some(k as u64) }
 }

@@ -42,7 +42,10 @@ fn missing_case(
         return None;
     }
     let found = record_at(log, k - 1);
-    Some(Fault::new(kind, &[node.0 as u64, parent_of(found), field::b(found), right]))
+    Some(Fault::new(
+        kind,
+        &[node.0 as u64, parent_of(found), field::b(found), right],
+    ))
 }
 
 // The case of the lowest right range that a node owes and does not hold, where there is one.

@@ -77,7 +77,13 @@ fn lowered(
 }
 
 // The lowest right range that a node owes and does not hold. The Rust's `owed_and_missing`.
-pub fn lowest_missing(log: &[u8], work: &[u64], count: usize, cap: usize, node: NodeId) -> Option<u64>
+pub fn lowest_missing(
+    log: &[u8],
+    work: &[u64],
+    count: usize,
+    cap: usize,
+    node: NodeId,
+) -> Option<u64>
     requires { Bounds log.now work.now count cap }
     ensures { Known cap (hist log.now count) work.now → result ≡ lowest_of (λ n. n) (is_missing node.0 (hist log.now count)) (map (λ s. s.right) (registered (hist log.now count))) }
 {
