@@ -26,6 +26,7 @@ fn read_some<R: Read>(from: &mut R, buf: &mut [u8]) -> io::Result<usize>
 pub fn read_input<R: Read>(from: &mut R, buf: &mut [u8]) -> io::Result<usize>
     ensures { Held result buf.new }
 {
+    // No `for`: that each turn reads a byte more is what ends it, and no number of turns.
     let mut done = 0usize;
     while done < buf.len() {
         let n = read_some(from, &mut buf[done..])?;

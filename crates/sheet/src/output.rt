@@ -13,7 +13,8 @@ pub struct Stopped {
     pub error: Error,
 }
 
-// One write, tried again where it was interrupted: how many bytes it took, or why it failed.
+// One write, tried again where it was interrupted: how many bytes it took, or why it failed. It is a loop like that of `read_some`:
+// one function for both, over a closure, would have to be shown of each call that its number is within the buffer that it captures.
 fn write_some<W: Write>(to: &mut W, buf: &[u8]) -> io::Result<usize>
     ensures { WritesAtMost result buf.now }
 {
@@ -30,6 +31,7 @@ fn write_some<W: Write>(to: &mut W, buf: &[u8]) -> io::Result<usize>
 pub fn write_output<W: Write>(to: &mut W, buf: &[u8]) -> Result<(), Stopped>
     ensures { Short result buf.now }
 {
+    // No `for`, as in `read_input`.
     let mut done = 0usize;
     while done < buf.len() {
         let put = write_some(to, &buf[done..]).map_err(|error| Stopped { done, error })?;
