@@ -69,9 +69,7 @@ fn answer(
         Question::Before(range, index) => {
             Some(found_number(before(log, work, n, cap, range, index)))
         }
-        Question::At(range, index) => {
-            Some(found_number(at(log, work, n, cap, range, index)))
-        }
+        Question::At(range, index) => { Some(found_number(at(log, work, n, cap, range, index))) }
         Question::FirstAtGeneration(range, generation) => {
             let first = first_at_generation(log, work, n, cap, range, generation);
             Some(found_number(first))

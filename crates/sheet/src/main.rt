@@ -8,14 +8,13 @@ ghost use Rattle.std.specs.Prelude.{◌≡◌};
 ghost use Rattle.sheet_text.specs.Sheets.{printed, printed_length};
 ghost use Rattle.sheet.specs.Printing.{sheet_of, Prints};
 
-use crate::input::{Input, read_input};
-use crate::output::{Written, write_output};
+use crate::input::read_input;
+use crate::output::{Stopped, write_output};
 use judge::state::{Judge, number_of};
 use judge::trace::Traced;
 use rules::Opening;
 use sheet_text::{SHEET_SIZE, sheet};
 use std::env::FillError;
-use std::io::Error;
 use std::rt::Env;
 
 const TENANT: u64 = 0;
@@ -31,17 +30,15 @@ const WORK: usize = 32 * CAPACITY;
 const TRACE: usize = 368 * (CAPACITY + 1);
 
 // Writes the sheet of what a trace gave to the front of the buffer.
+#[tactic(auto, unfolding(crate::specs::Printing::sheet_of))]
 fn sheet_of(traced: Traced, out: &mut [u8]) -> usize
     ensures value { result ≡ printed_length (sheet_of traced) out.old }
     ensures out_after { out.new ≡ printed (sheet_of traced) out.old }
 {
-    let refusal = traced.refusal;
-    let judge = traced.judge;
-    let reports = judge.reports;
     sheet(
-        reports,
-        judge.count as u64,
-        number_of(refusal),
+        traced.judge.reports,
+        traced.judge.count as u64,
+        number_of(traced.refusal),
         traced.at as u64,
         out,
     )
@@ -60,32 +57,30 @@ fn judged(trace: &[u8], out: &mut [u8]) -> usize
 
 // Says on standard error that the sheet did not reach standard output, or that only a part of it did. Where standard error
 // takes nothing either, nobody is left to tell.
-fn say_stopped(rt: &impl Eprint, done: usize, e: Error) {
-    let _ = if done == 0 {
-        eprintln!(rt; "sheet: no line printed, writing to standard output failed: {e}")
+fn say_stopped(rt: &impl Eprint, stopped: Stopped) {
+    let error = stopped.error;
+    let printed = if stopped.done == 0 {
+        "no line"
     } else {
-        eprintln!(rt; "sheet: only a part printed, writing to standard output failed: {e}")
+        "only a part"
     };
+    let _ = eprintln!(rt; "sheet: {printed} printed, writing to standard output failed: {error}");
 }
 
 // Prints the sheet of a trace.
+#[tactic(auto, using(sheet_text::proofs::Printed::printed_within))]
 fn print_sheet(rt: HostRuntime, trace: &[u8]) {
     let mut out = [0u8; SHEET_SIZE];
     let end = judged(trace, &mut out);
-    let written = write_output(&mut rt.stdout(), &out[..end]);
-    match written {
-        Written::All => {}
-        Written::Stopped(done, e) => say_stopped(&rt, done, e),
+    if let Err(stopped) = write_output(&mut rt.stdout(), &out[..end]) {
+        say_stopped(&rt, stopped);
     }
 }
 
 // Whether an argument was given. One that is longer than the buffer was.
 fn has_argument(rt: &impl Env) -> bool {
     let mut start = [0u8; 1];
-    match rt.arg(1, &mut start) {
-        Err(FillError::NotPresent) => false,
-        _ => true,
-    }
+    !matches!(rt.arg(1, &mut start), Err(FillError::NotPresent))
 }
 
 // Reads until the input ends or 97 records are there. Where a read failed there is no sheet: what was read may be any
@@ -96,10 +91,9 @@ fn main(rt: HostRuntime) {
         return;
     }
     let mut trace = [0u8; TRACE];
-    let input = read_input(&mut rt.stdin(), &mut trace);
-    match input {
-        Input::Bytes(n) => print_sheet(rt, &trace[..n]),
-        Input::Failed(e) => {
+    match read_input(&mut rt.stdin(), &mut trace) {
+        Ok(n) => print_sheet(rt, &trace[..n]),
+        Err(e) => {
             let _ = eprintln!(rt; "sheet: no verdict, reading standard input failed: {e}");
         }
     }

@@ -6,46 +6,40 @@ use crate::input::TRIES;
 use std::io;
 use std::io::{Error, ErrorKind, Write};
 
-// What writing came to: all was taken, or a write failed after so many bytes, and why.
+// Where writing stopped: how many bytes were taken before a write failed, and why it failed.
 #[derive(Clone, Copy)]
-pub enum Written {
-    All,
-    Stopped(usize, Error),
+pub struct Stopped {
+    pub done: usize,
+    pub error: Error,
 }
 
-// One write, tried again where it was interrupted: how many bytes it took, or why it failed.
+// One write, tried again where it was interrupted: how many bytes it took, or why it failed. It is a loop like that of `read_some`:
+// one function for both, over a closure, would have to be shown of each call that its number is within the buffer that it captures.
 fn write_some<W: Write>(to: &mut W, buf: &[u8]) -> io::Result<usize>
     ensures { WritesAtMost result buf.now }
 {
-    let mut left = TRIES;
-    while 0 < left {
+    for _ in 0..TRIES {
         match to.write(buf) {
-            Ok(n) => return Ok(n),
-            Err(e) => {
-                if e.kind() != ErrorKind::Interrupted {
-                    return Err(e);
-                }
-            }
+            Err(e) if e.kind() == ErrorKind::Interrupted => {}
+            written => return written,
         }
-        left -= 1;
     }
     Err(Error::from(ErrorKind::Interrupted))
 }
 
 // Writes the bytes, in pieces where the output takes no more at once.
-pub fn write_output<W: Write>(to: &mut W, buf: &[u8]) -> Written
+pub fn write_output<W: Write>(to: &mut W, buf: &[u8]) -> Result<(), Stopped>
     ensures { Short result buf.now }
 {
+    // No `for`, as in `read_input`.
     let mut done = 0usize;
     while done < buf.len() {
-        let put = match write_some(to, &buf[done..]) {
-            Ok(n) => n,
-            Err(e) => return Written::Stopped(done, e),
-        };
+        let put = write_some(to, &buf[done..]).map_err(|error| Stopped { done, error })?;
         if put == 0 {
-            return Written::Stopped(done, Error::from(ErrorKind::WriteZero));
+            let error = Error::from(ErrorKind::WriteZero);
+            return Err(Stopped { done, error });
         }
         done += put;
     }
-    Written::All
+    Ok(())
 }

@@ -1,8 +1,0 @@
--- `write_some`: the number of tries left falls.
-use Rattle.sheet.proofs.output.write_some.Given as goal
-
-abbrev pub invariant-loop-left : goal.invariant-loop-left
-invariant-loop-left g l = Unit {0}
-
-abbrev pub decreases-loop-left : goal.decreases-loop-left
-decreases-loop-left g l = l.left
