@@ -6,3 +6,4 @@ pub mod Meets
 pub mod Walks
 pub mod Checks
 pub mod Notes
+pub mod Founds

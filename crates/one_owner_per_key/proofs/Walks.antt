@@ -42,7 +42,7 @@ module _ {t : TraceRecord → History → Bool} {f : Tells ℕ} {b : ℕ} (s : W
   to n = latest_number t (hist log n)
 
   -- a record outside the bucket does not pass
-  outside : (k : ℕ) → (In f b log k → ⊥) → up_to top to (suc k) ≡ up_to top to k
+  pub outside : (k : ℕ) → (In f b log k → ⊥) → up_to top to (suc k) ≡ up_to top to k
   outside =
       up_to_outside to top f b log
       (λ k n. elim (decide (passes_at t log k)) [ inl e ↦ absurd (n (s.is (record_at log k) (hist log k) e)) | inr e ↦ at_miss t log k e ])
