@@ -40,10 +40,7 @@ fn node_number(rec: &[u8]) -> u64
     requires { length rec.now ≡ 368 }
     ensures { result ≡ node_number (decode rec.now).node }
 {
-    match node(rec) {
-        Some(n) => n.0 as u64 + 1,
-        None => 0,
-    }
+    node(rec).map_or(0, |n| n.0 as u64 + 1)
 }
 
 // Whether a record goes on with the event of the one before it.
