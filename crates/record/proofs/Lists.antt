@@ -1,10 +1,13 @@
 -- Lists of numbers: one step further along one, the front of a rest, and runs of stores. What the logic's own `lib.Seq` has is not said again.
-use mathlib.Core.Path.{◌≡◌, refl, ap, ◌∙◌}
-use mathlib.Core.List.{List, [], ◌∷◌, ◌++◌, append-nil}
+use mathlib.Core.Path.{◌≡◌, refl, sym, ap, ◌∙◌}
+use mathlib.Core.List.{List, [], ◌∷◌, ◌++◌, append-nil, append_assoc}
 use Prim.Native.Nat.{ℕ, zero, suc, ◌+◌, ◌≤◌, ◌<◌}
 use native.Mathlib.Numerals.{add-one}
 use native.Mathlib.Omega.{arith}
 use lib.ListN.{length, get_or, take, drop, set, length-append, length-set, drop_of_length-le}
+use borrow.Rule.Slice.PartMut.{put_mid}
+use Rattle.std.proofs.lemmas.Slice.{put_mid-paste}
+use Rattle.std.proofs.lemmas.List.Edits.{paste_all}
 use lib.Seq.{drop-cons, take-nil, take_at, set-append_left, sets, sets-eq}
 
 -- a list from a place on is the number there, and the list from the next place on
@@ -69,3 +72,10 @@ sets_end xs ys vs i e f =
     ∙ ap (λ (t : List ℕ). t ++ vs ++ drop (i + length vs) (xs ++ ys)) (take_at xs ys i e)
     ∙ ap (λ (t : List ℕ). xs ++ vs ++ t) d
     ∙ append-nil (xs ++ vs)
+
+-- a part overwritten by a list of its length is that list stored from the part's start on
+pub put_sets : {A : Type 0} (l : List A) (i k : ℕ) (vs : List A) → k ≡ length vs → i + k ≤ length l → put_mid i k l vs ≡ sets l i vs
+put_sets l i k vs e h =
+    put_mid-paste i k l vs vs (length vs) refl (sym e) refl
+    ∙ paste_all l i vs (length vs) refl
+    ∙ sym (sets-eq vs l i (omega arith) ∙ append_assoc (take i l) vs (drop (i + length vs) l))

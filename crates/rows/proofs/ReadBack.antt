@@ -1,62 +1,32 @@
 -- Words read as reports are those words again, and reports written as words read back. Assumes nothing.
-use Rattle.std.specs.Prelude.{None}
+use Rattle.std.specs.Prelude.{map}
+use Rattle.std.specs.List.{list_all, range_with_len}
 use mathlib.Core.Path.{◌≡◌, refl, sym, ap, ◌∙◌, subst}
-use mathlib.Core.Bool.{Bool, true, ◌&&◌}
+use mathlib.Core.Bool.{true}
 use mathlib.Core.List.{List, [], ◌∷◌, ◌++◌, append_assoc}
 use Prim.Native.Nat.{ℕ, zero, suc, ◌+◌, ◌*◌, ◌≤◌, ◌<◌}
 use native.Mathlib.Decide.{ℕ_discrete}
-use native.Mathlib.Numerals.{add-one}
+use Rattle.std.proofs.Common.{add-zero, add_assoc}
 use native.Mathlib.Omega.{arith}
 use borrow.Author.Tests.{leb-true, le-leb}
 use lib.Dec.{leb}
-use lib.ListN.{length, get_or, take, drop, set, length-append, length-set, drop_of_length-le}
-use lib.Seq.{sets, drop-cons, take_all, take-suc-set, get_or-append-add, get_or-set_same, get_or-set_other}
+use lib.ListN.{length, get_or, drop, set, length-append, drop_of_length-le}
+use lib.Seq.{sets, drop-cons, get_or-append-add}
 use Rattle.record.proofs.Lists.{sets_tail}
-use Rattle.rules.specs.Cases.{Case, fault_with}
-use Rattle.rules.specs.declared.Evidence.{Evidence}
+use Rattle.record.proofs.Ranges.{all_range}
 use Rattle.rules.specs.declared.Report.{Report}
 use Rattle.rules.specs.declared.Verdict.{Verdict}
 use Rattle.rules.specs.declared.Verdict.TheVariants.{Pass, Faulted}
-use Rattle.rules.specs.Reports.{passed, faulted}
+use Rattle.rules.specs.Reports.{passed}
 use Rattle.rules.specs.Checks.{check_count}
 use Rattle.record.proofs.Booleans.{and_left, and_right, both}
-use Rattle.rows.specs.Rows.{rows_size, kind_word, report_words, rows_of, verdict_in, report_in, reports_from, reports_in, KindsFit, kinds_fit_in, kinds_fit, entered_in, EntersIn}
+use Rattle.rows.specs.Rows.{rows_size, kind_word, report_words, rows_of, verdict_in, report_in, reports_from, reports_in, KindsFit, kinds_fit_in, kinds_fit}
 
 -- ---- from words to reports and back to the words
 
 kind_read : (w : ℕ) → kind_word (verdict_in w) ≡ w
 kind_read zero = refl
 kind_read (suc k) = refl
-
--- a word that is not 0 is a fault's kind
-pub fault_read : (w : ℕ) → (w ≡ 0 → ⊥) → Faulted w ≡ verdict_in w
-fault_read zero h = absurd (h refl)
-fault_read (suc k) h = refl
-
-pub report_read : (words : List ℕ) (at : ℕ) {v : Verdict} → v ≡ verdict_in (get_or words at 0)
-    → ◌≡◌ {A = Report} (record {
-      verdict = v;
-      at = get_or words (at + 1) 0;
-      evidence = record {
-        e0 = get_or words (at + 2) 0;
-        e1 = get_or words (at + 3) 0;
-        e2 = get_or words (at + 4) 0;
-        e3 = get_or words (at + 5) 0;
-        e4 = get_or words (at + 6) 0;
-      };
-    }) (report_in words at)
-unfolding report_in
-report_read words at e = λ i. record {
-  verdict = e i;
-  at = get_or words (at + 1) 0;
-  evidence = record {
-    e0 = get_or words (at + 2) 0;
-    e1 = get_or words (at + 3) 0;
-    e2 = get_or words (at + 4) 0;
-    e3 = get_or words (at + 5) 0;
-    e4 = get_or words (at + 6) 0;
-  };
-}
 
 step : {A : Type 0} (l : List A) (d : A) (i j : ℕ) → j ≡ i + 1 → i < length l → drop i l ≡ get_or l i d ∷ drop j l
 step l d i j e h =
@@ -171,49 +141,17 @@ row_kind (s ∷ rs) (suc k) l =
 
 -- ---- reports read one after the other
 
-pub reports_none : (words : List ℕ) (at : ℕ) (rs : List Report) → take 0 rs ≡ reports_from 0 words at
+-- all of them, by their places
+pub reports_range : (words : List ℕ) (at : ℕ) → map (λ k. report_in words (at + 7 * k)) (range_with_len 0 check_count) ≡ reports_in words at
 unfolding reports_from
-reports_none words at rs = refl
-
--- the last of them
-reports_snoc : (n : ℕ) (words : List ℕ) (at : ℕ) → reports_from (suc n) words at ≡ reports_from n words at ++ (report_in words (at + 7 * n) ∷ [])
-unfolding reports_from
-reports_snoc zero words at = ap (λ (i : ℕ). report_in words i ∷ []) (omega arith)
-reports_snoc (suc n) words at =
-    let e : at + 7 + 7 * n ≡ at + 7 * suc n = omega arith in
-    ap (λ (t : List Report). report_in words at ∷ t) (reports_snoc n words (at + 7))
-    ∙ ap (λ (i : ℕ). report_in words at ∷ (reports_from n words (at + 7) ++ (report_in words i ∷ []))) e
-
--- one report more
-pub reports_more : (words : List ℕ) (at : ℕ) (rs : List Report) (k : ℕ) {r : Report} → k < length rs → take k rs ≡ reports_from k words at
-    → r ≡ report_in words (at + 7 * k) → take (k + 1) (set rs k r) ≡ reports_from (k + 1) words at
-reports_more words at rs k {r} l e h =
-    ap (λ (n : ℕ). take n (set rs k r)) (add-one k)
-    ∙ take-suc-set rs k r l
-    ∙ (λ i. e i ++ (h i ∷ []))
-    ∙ sym (reports_snoc k words at)
-    ∙ ap (λ (n : ℕ). reports_from n words at) (sym (add-one k))
-
--- all of them
-pub reports_all : (words : List ℕ) (at : ℕ) (rs : List Report) (k n : ℕ) → length rs ≡ n → k ≡ n → take k rs ≡ reports_from k words at
-    → rs ≡ reports_from n words at
-reports_all words at rs k n l q e = sym (take_all k rs (omega arith)) ∙ e ∙ ap (λ (m : ℕ). reports_from m words at) q
+reports_range words at = simp (add-zero, add_assoc)
 
 -- ---- kinds that are bytes
 
-pub fit_none : (words : List ℕ) (at : ℕ) → true ≡ kinds_fit_in 0 words at
+-- all of them, by their places
+pub fit_range : (words : List ℕ) (at : ℕ) → list_all (λ k. leb (get_or words (at + 7 * k) 0) 255) (range_with_len 0 check_count) ≡ kinds_fit words at
 unfolding kinds_fit_in
-fit_none words at = refl
-
--- one kind more
-pub fit_more : (words : List ℕ) (at k : ℕ) {fit : Bool} → fit ≡ kinds_fit_in k words at
-    → fit && leb (get_or words (at + 7 * k) 0) 255 ≡ kinds_fit_in (k + 1) words at
-unfolding kinds_fit_in
-fit_more words at k e =
-    ap (λ (b : Bool). b && leb (get_or words (at + 7 * k) 0) 255) e ∙ ap (λ (n : ℕ). kinds_fit_in n words at) (sym (add-one k))
-
-pub fit_all : (words : List ℕ) (at k n : ℕ) {fit : Bool} → k ≡ n → fit ≡ kinds_fit_in k words at → fit ≡ kinds_fit_in n words at
-fit_all words at k n q e = e ∙ ap (λ (m : ℕ). kinds_fit_in m words at) q
+fit_range words at = all_range (λ n. kinds_fit_in n words at) (λ k. leb (get_or words (at + 7 * k) 0) 255) refl (λ n. refl) check_count
 
 -- what the test says, of the first n
 fit_in : (n : ℕ) (words : List ℕ) (at : ℕ) → kinds_fit_in n words at ≡ true → (k : ℕ) → k < n → get_or words (at + 7 * k) 0 ≤ 255
@@ -244,38 +182,4 @@ fit_rows rs n h =
       kind = λ k l.
           let z : 7 * k ≡ 0 + 7 * k = omega arith in
           subst (λ (m : ℕ). get_or (rows_of rs) m 0 ≤ 255) z (subst (λ (w : ℕ). w ≤ 255) (sym (row_kind rs k (omega arith))) (h k l));
-    }
-
--- a report entered into rows whose kinds are bytes
-pub enter_fits : (rows : List ℕ) (k : ℕ) (r : Report) → length rows ≡ rows_size → k < check_count → kind_word r.verdict ≤ 255
-    → KindsFit rows 0 → KindsFit (sets rows (7 * k) (report_words r)) 0
-enter_fits rows k r n l b f =
-    let rs : List Report = reports_in rows 0 in
-    let c : length rs ≡ check_count = reports_count check_count rows 0 in
-    let read : rows ≡ rows_of rs = rows_read rows n in
-    let put : sets rows (7 * k) (report_words r) ≡ rows_of (set rs k r) =
-    ap (λ (w : List ℕ). sets w (7 * k) (report_words r)) read ∙ rows_set rs k r (omega arith) in
-    let word : (j : ℕ) → j < check_count → kind_word (get_or rs j passed).verdict ≤ 255 = λ j s.
-    let z : 0 + 7 * j ≡ 7 * j = omega arith in
-    let w : get_or rows (0 + 7 * j) 0 ≡ kind_word (get_or rs j passed).verdict = (λ i. get_or (read i) (z i) 0) ∙ row_kind rs j (omega arith) in
-    subst (λ (x : ℕ). x ≤ 255) w (f.kind j s) in
-    let each : (j : ℕ) → j < check_count → kind_word (get_or (set rs k r) j passed).verdict ≤ 255 = λ j s. elim (ℕ_discrete j k) [
-      | yes q ↦ subst (λ (x : Report). kind_word x.verdict ≤ 255)
-          (sym (ap (λ (m : ℕ). get_or (set rs k r) m passed) q ∙ get_or-set_same rs k r passed (omega arith))) b
-      | no q ↦ subst (λ (x : Report). kind_word x.verdict ≤ 255) (sym (get_or-set_other rs k j r passed q)) (word j s)
-    ] in
-    subst (λ (w : List ℕ). KindsFit w 0) (sym put) (fit_rows (set rs k r) (length-set rs k r ∙ c) each)
-
--- ---- what a check says, entered
-
-pub enter_clear : (rows : List ℕ) (k position : ℕ) {c : Case} → c ≡ None → EntersIn rows k c position rows
-enter_clear rows k position e = record { is = ap (λ (d : Case). entered_in rows k d position) (sym e); fits = λ f. f }
-
-pub enter_fault : (rows : List ℕ) (k position : ℕ) {kind : ℕ} {e : Evidence} {c : Case} {rows' : List ℕ}
-    → length rows ≡ rows_size → k < check_count → kind ≤ 255
-    → c ≡ fault_with kind e → rows' ≡ sets rows (7 * k) (report_words (faulted position kind e)) → EntersIn rows k c position rows'
-enter_fault rows k position {kind} {e} n l b q w =
-    record {
-      is = w ∙ ap (λ (d : Case). entered_in rows k d position) (sym q);
-      fits = λ f. subst (λ (r : List ℕ). KindsFit r 0) (sym w) (enter_fits rows k (faulted position kind e) n l b f);
     }

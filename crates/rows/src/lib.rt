@@ -9,6 +9,7 @@ ghost use Rattle.rules.specs.Checks.{check_count};
 ghost use Rattle.rows.specs.Rows.{rows_size, kind_word, report_words, verdict_in, report_in, reports_in, KindsFit, kinds_fit, WrittenIn, EntersIn};
 
 use rules::{CHECKS, Evidence, Fault, Report, Verdict};
+use std::array;
 
 // The words of a report: kind, position, five evidence numbers.
 pub const REPORT_WORDS: usize = 7;
@@ -38,20 +39,20 @@ fn verdict_of(word: u64) -> Verdict
     requires { word ≤ 255 }
     ensures { result ≡ verdict_in word }
 {
-    if word == 0 {
-        return Verdict::Pass;
+    match word {
+        0 => Verdict::Pass,
+        kind => Verdict::Faulted(kind as u8),
     }
-    Verdict::Faulted(word as u8)
 }
 
 // The report whose seven words begin at a place.
+#[tactic(auto, unfolding(crate::specs::Rows::report_in))]
 pub fn read_report(words: &[u64], at: usize) -> Report
     requires { (at + 7 ≤ length words.now) × (get_or words.now at 0 ≤ 255) }
     ensures { result ≡ report_in words.now at }
 {
-    let verdict = verdict_of(words[at]);
     Report {
-        verdict: verdict,
+        verdict: verdict_of(words[at]),
         at: words[at + 1],
         evidence: Evidence {
             e0: words[at + 2],
@@ -68,13 +69,7 @@ pub fn kinds_fit(words: &[u64], at: usize) -> bool
     requires { at + rows_size ≤ length words.now }
     ensures { result ≡ kinds_fit words.now at }
 {
-    let mut fit = true;
-    let mut k = 0usize;
-    while k < CHECKS {
-        fit = fit & (words[at + REPORT_WORDS * k] <= 255);
-        k += 1;
-    }
-    fit
+    (0..CHECKS).all(|k| words[at + REPORT_WORDS * k] <= 255)
 }
 
 // The reports whose words begin at a place.
@@ -82,14 +77,7 @@ pub fn read_rows(words: &[u64], at: usize) -> [Report; CHECKS]
     requires { (at + rows_size ≤ length words.now) × KindsFit words.now at }
     ensures { result ≡ reports_in words.now at }
 {
-    let mut reports = [pass(); CHECKS];
-    let mut k = 0usize;
-    while k < CHECKS {
-        let report = read_report(words, at + REPORT_WORDS * k);
-        reports[k] = report;
-        k += 1;
-    }
-    reports
+    array::from_fn(|k| read_report(words, at + REPORT_WORDS * k))
 }
 
 // A verdict's word, which is a byte.
@@ -98,7 +86,7 @@ fn kind_word(verdict: Verdict) -> u64
 {
     match verdict {
         Verdict::Pass => 0,
-        Verdict::Faulted(kind) => kind as u64,
+        Verdict::Faulted(kind) => u64::from(kind),
     }
 }
 
@@ -107,14 +95,9 @@ pub fn write_report(out: &mut [u64], at: usize, report: Report)
     requires { at + 7 ≤ length out.old }
     ensures { (out.new ≡ sets out.old at (report_words report)) × (kind_word report.verdict ≤ 255) }
 {
-    let verdict = report.verdict;
-    out[at] = kind_word(verdict);
-    out[at + 1] = report.at;
-    out[at + 2] = report.evidence.e0;
-    out[at + 3] = report.evidence.e1;
-    out[at + 4] = report.evidence.e2;
-    out[at + 5] = report.evidence.e3;
-    out[at + 6] = report.evidence.e4;
+    let Evidence { e0, e1, e2, e3, e4 } = report.evidence;
+    let words = [kind_word(report.verdict), report.at, e0, e1, e2, e3, e4];
+    out[at..at + REPORT_WORDS].copy_from_slice(&words);
 }
 
 // Writes the words of all reports from a place on; that they are as many as the checks, with bytes as kinds, is said for the callers.
@@ -122,11 +105,8 @@ pub fn write_rows(out: &mut [u64], at: usize, reports: [Report; CHECKS])
     requires { at + rows_size ≤ length out.old }
     ensures { WrittenIn out.old at reports out.new }
 {
-    let mut k = 0usize;
-    while k < CHECKS {
-        let report = reports[k];
-        write_report(out, at + REPORT_WORDS * k, report);
-        k += 1;
+    for (k, report) in reports.iter().enumerate() {
+        write_report(out, at + REPORT_WORDS * k, *report);
     }
 }
 

@@ -1,19 +1,12 @@
--- `kinds_fit`: kind by kind, the test of the first k.
-use native.Mathlib.Omega.{arith}
-use Rattle.rows.proofs.ReadBack.{fit_none, fit_more, fit_all}
+-- `kinds_fit`: what is asked of each place in turn is the test.
+use Rattle.std.proofs.Common.{refl, ◌+◌, ◌*◌, ◌∙◌, leb, get_or, rules, tests}
+use Rattle.std.proofs.lemmas.Iterator.{YieldsList-from_range}
+use Rattle.std.proofs.lemmas.Iterator.Search.{all_from_yields_List}
+use Rattle.rows.proofs.ReadBack.{fit_range}
 use Rattle.rows.proofs.kinds_fit.Goals as goal
-
-pub loop-k-init : goal.loop-k-init
-loop-k-init c = (omega arith, fit_none c.args.words.now c.args.at)
-
-pub loop-k-preserved : goal.loop-k-preserved
-loop-k-preserved c =
-    let a = c.args in
-    let l = c.loop-k in
-    (omega arith, fit_more a.words.now a.at l.k l.invariant.1)
 
 pub returns : goal.returns
 returns c =
     let a = c.args in
-    let l = c.loop-k in
-    fit_all a.words.now a.at l.k 8 (omega arith) l.invariant.1
+    all_from_yields_List (λ k. leb (get_or a.words.now (a.at + 7 * k) 0) 255) _ _ c.all.result c.all.ensures.ran (YieldsList-from_range 0 8 8 (cc) refl) (λ x b q k. search (rules, tests))
+    ∙ fit_range a.words.now a.at
