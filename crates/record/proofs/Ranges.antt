@@ -1,30 +1,47 @@
 -- Counting up: a test of each number below one, and an array made of a value for each. Assumes nothing.
-use Rattle.std.proofs.Common.{◌≡◌, refl, ◌∙◌, ap, sym, subst, ℕ, zero, suc, ◌+◌, ◌<◌, ◌≤◌, Bool, true, ◌&&◌, List, [], ◌∷◌, ◌++◌, length, get_or, map, arith, add-one}
+use Rattle.std.proofs.Common.{◌≡◌, refl, ◌∙◌, ap, sym, subst, ℕ, zero, suc, ◌+◌, ◌-◌, ◌<◌, ◌≤◌, Bool, true, false, Option, MatchOption, ◌&&◌, List, [], ◌∷◌, ◌++◌, length, get_or, map, arith, add-one}
 use mathlib.Core.List.{map-id}
 use Rattle.std.proofs.Math.Bool.{and-true}
 use native.Mathlib.Decide.{ℕ_discrete}
 use Rattle.std.specs.Fn.{Mut, Called}
 use Rattle.std.specs.Array.{IsFromFnResult, IsFromFnResultFrom}
-use Rattle.std.specs.List.{list_all, range_with_len}
+use Rattle.std.specs.List.{list_all, range_with_len, FoldsTo}
 use Rattle.std.proofs.lemmas.List.FromFn.{fill_by_all, map-range_with_len_more}
 use Rattle.std.proofs.lemmas.List.Folds.{list_all-append}
+use Rattle.std.proofs.iter.Yields.{nat_range_steps}
+use Rattle.std.specs.Iterator.{YieldsThen}
+use Rattle.std.specs.declared.ops.Range.{Range}
+use Rattle.std.proofs.lemmas.Iterator.{YieldsList-from_range}
+use Rattle.std.proofs.lemmas.Iterator.Search.{all_from_yields_List}
 
-range_snoc : (n : ℕ) → range_with_len 0 (suc n) ≡ range_with_len 0 n ++ n ∷ []
-range_snoc n =
-    ap (range_with_len 0) (sym (add-one n))
-    ∙ sym (map-id (range_with_len 0 (n + 1)))
-    ∙ map-range_with_len_more (λ k. k) 0 n n (omega arith)
-    ∙ ap (λ (t : List ℕ). t ++ n ∷ []) (map-id (range_with_len 0 n))
+range_snoc : (a n : ℕ) → range_with_len a (suc n) ≡ range_with_len a n ++ (a + n) ∷ []
+range_snoc a n =
+    ap (range_with_len a) (sym (add-one n))
+    ∙ sym (map-id (range_with_len a (n + 1)))
+    ∙ map-range_with_len_more (λ k. k) a n (a + n) refl
+    ∙ ap (λ (t : List ℕ). t ++ (a + n) ∷ []) (map-id (range_with_len a n))
 
--- a test of each number below n, by a function that asks for one number more at each step
-pub all_range : (holds : ℕ → Bool) (test : ℕ → Bool) → holds 0 ≡ true → ((n : ℕ) → holds (suc n) ≡ (holds n && test n))
-    → (n : ℕ) → list_all test (range_with_len 0 n) ≡ holds n
-all_range holds test none more zero = sym none
-all_range holds test none more (suc n) =
-    ap (list_all test) (range_snoc n)
-    ∙ list_all-append test (range_with_len 0 n) (n ∷ [])
-    ∙ (λ i. all_range holds test none more n i && and-true (test n) i)
-    ∙ sym (more n)
+-- a test of each of n numbers, by a function that asks for one number more at each step
+all_range : (holds test : ℕ → Bool) (a n : ℕ) → holds a ≡ true
+    → ((k : ℕ) → a ≤ k → k < a + n → holds (k + 1) ≡ (holds k && test k)) → list_all test (range_with_len a n) ≡ holds (a + n)
+all_range holds test a zero none more = sym none ∙ ap holds (omega arith)
+all_range holds test a (suc n) none more =
+    let before : list_all test (range_with_len a n) ≡ holds (a + n) = all_range holds test a n none (λ k l m. more k l (omega arith)) in
+    ap (list_all test) (range_snoc a n)
+    ∙ list_all-append test (range_with_len a n) ((a + n) ∷ [])
+    ∙ (λ i. before i && and-true (test (a + n)) i)
+    ∙ sym (more (a + n) (omega arith) (omega arith))
+    ∙ ap holds (omega arith)
+
+-- what a range's `all` gives, where the closure is such a test
+pub range_all : {F : Type 0} {g : Mut F (ℕ × Unit {0}) Bool} (test : ℕ → Bool) (a b : ℕ) {s u : Range ℕ} {f : F} (r : Bool)
+    → (xs : List ℕ) × (o : Option ℕ) × (j : F) × YieldsThen nat_range_steps s xs o u × FoldsTo (λ p x q. Called g p (x, tt) true q) f xs j × MatchOption o (r ≡ true) (λ x. (r ≡ false) × ((h : F) × Called g j (x, tt) false h))
+    → s ≡ record { start = a; end = b } → ((x : ℕ) (b : Bool) (q : F) → Called g f (x, tt) b q → (q ≡ f) × (b ≡ test x))
+    → (holds : ℕ → Bool) → a ≤ b → holds a ≡ true → ((k : ℕ) → a ≤ k → k < b → holds (k + 1) ≡ (holds k && test k)) → r ≡ holds b
+range_all test a b r ran from each holds l none more =
+    all_from_yields_List test _ _ r ran (YieldsList-from_range a b (b - a) from refl) each
+    ∙ all_range holds test a (b - a) none (λ k h m. more k h (omega arith))
+    ∙ ap holds (omega arith)
 
 -- what `array::from_fn` makes of a closure that gives h of each place
 made_at : {F B : Type 0} {g : Mut F (ℕ × Unit {0}) B} (h : ℕ → B) (f : F) (made : List B)

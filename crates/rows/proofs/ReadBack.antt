@@ -13,7 +13,6 @@ use lib.Dec.{leb}
 use lib.ListN.{length, get_or, drop, set, length-append, drop_of_length-le}
 use lib.Seq.{sets, drop-cons, get_or-append-add}
 use Rattle.record.proofs.Lists.{sets_tail}
-use Rattle.record.proofs.Ranges.{all_range}
 use Rattle.rules.specs.declared.Report.{Report}
 use Rattle.rules.specs.declared.Verdict.{Verdict}
 use Rattle.rules.specs.declared.Verdict.TheVariants.{Pass, Faulted}
@@ -147,11 +146,6 @@ unfolding reports_from
 reports_range words at = simp (add-zero, add_assoc)
 
 -- ---- kinds that are bytes
-
--- all of them, by their places
-pub fit_range : (words : List ℕ) (at : ℕ) → list_all (λ k. leb (get_or words (at + 7 * k) 0) 255) (range_with_len 0 check_count) ≡ kinds_fit words at
-unfolding kinds_fit_in
-fit_range words at = all_range (λ n. kinds_fit_in n words at) (λ k. leb (get_or words (at + 7 * k) 0) 255) refl (λ n. refl) check_count
 
 -- what the test says, of the first n
 fit_in : (n : ℕ) (words : List ℕ) (at : ℕ) → kinds_fit_in n words at ≡ true → (k : ℕ) → k < n → get_or words (at + 7 * k) 0 ≤ 255

@@ -14,11 +14,12 @@ use Rattle.record.proofs.Booleans.{never, and_right, both, or_left, or_right}
 use Rattle.judge.specs.declared.state.Judge.{Judge}
 use Rattle.tally.specs.declared.Entered.{Entered}
 use Rattle.tally.specs.declared.Refusal.{Refusal}
-use Rattle.tally.specs.declared.Refusal.TheVariants.{Nothing, Unfit, Unused, Full}
+use Rattle.tally.specs.declared.Refusal.TheVariants.{Unfit, Unused, Full}
 use Rattle.tally.specs.Stored.{holds, stored, number_in, all_to}
 use Rattle.tally.specs.Counts.{place_count, tally_places, traces_at, is_used, count_at}
 use Rattle.tally.specs.Entries.{width, tally_size, refusal_number, is_entry, unused_clear, raised, has_room, in_order, entry_refusal, left_by, EntersBy}
 use Rattle.tally.specs.Campaigns.{zero_tally, Entry, Campaign, none, more, entered, next_refusal, sum_to, Tallied}
+use Rattle.std.specs.Prelude.{Result, Ok, Err}
 use Rattle.tally.proofs.Tests.{all_at, all_of, all_same}
 use Rattle.tally.proofs.Widths.{stored_length, stored_same, number_stored, number_fits, stored_zeros}
 use Rattle.tally.proofs.Counts.{count_none, count_more, count_unused, kinds_few, count_traces, count_totals, sum_same, AllEntries, traces_sum}
@@ -34,13 +35,13 @@ raised_only bytes j i b e =
     omega arith
 
 -- each number is a refusal's
-numbered : (a b c : Bool) → (x : Refusal) × (refusal_number x ≡ in_order a b c)
-numbered true true true = (Nothing, refl)
-numbered true true false = (Full, refl)
-numbered true false c = (Unused, refl)
-numbered false b c = (Unfit, refl)
+numbered : (a b c : Bool) → (x : Result (Unit {0}) Refusal) × (refusal_number x ≡ in_order a b c)
+numbered true true true = (Ok tt, refl)
+numbered true true false = (Err Full, refl)
+numbered true false c = (Err Unused, refl)
+numbered false b c = (Err Unfit, refl)
 
-pub refusal_of : (bytes : List ℕ) (j : Judge) → (x : Refusal) × (refusal_number x ≡ entry_refusal bytes j)
+pub refusal_of : (bytes : List ℕ) (j : Judge) → (x : Result (Unit {0}) Refusal) × (refusal_number x ≡ entry_refusal bytes j)
 unfolding entry_refusal
 refusal_of bytes j = numbered (eqb (length bytes) tally_size && is_entry j) (unused_clear bytes) (has_room bytes j)
 

@@ -1,15 +1,14 @@
 -- What an entry comes to, from what its parts say: refused for each reason, or entered. Assumes nothing.
 use mathlib.Core.Path.{◌≡◌, refl, sym, ap, ◌∙◌, subst}
-use mathlib.Core.Bool.{Bool, true, false, cond, not, ◌&&◌}
+use mathlib.Core.Bool.{Bool, true, false, cond, ◌&&◌}
 use mathlib.Core.List.{List, [], ◌∷◌}
 use Prim.Native.Nat.{ℕ, zero, suc, ◌+◌, ◌*◌, ◌≤◌, ◌<◌}
 use native.Mathlib.Decide.{dec_lt}
 use native.Mathlib.Omega.{arith}
 use lib.ListN.{length, get_or}
 use lib.Dec.{eqb, ltb}
-use borrow.Author.Tests.{ltb-true, eqb-true, eqb-false, not-true, not-false, lt-ltb, le-ltb, ne_eqb}
+use borrow.Author.Tests.{ltb-true, eqb-true, eqb-false, lt-ltb, le-ltb, ne_eqb}
 use Rattle.rules.specs.Checks.{check_count, check_at}
-use Rattle.record.proofs.Booleans.{and_left, and_right}
 use Rattle.decision.specs.Refusals.{fits_by}
 use Rattle.judge.specs.declared.state.Judge.{Judge}
 use Rattle.tally.specs.declared.Entered.{Entered}
@@ -107,49 +106,7 @@ module _ (j : Judge) (places : List ℕ) (p : PlacesOf j.reports places) where
     pub raised_is : (bytes : List ℕ) → tallied_to tally_places bytes places j.count ≡ stored width (raised bytes j) tally_places
     raised_is bytes = stored_same width (raised_to tally_places bytes places j.count) (raised bytes j) tally_places (raised_at bytes)
 
--- ---- by numbers: what is refused, and what is entered
-
-module _ (bytes places : List ℕ) (count : ℕ) (fit : Bool) where
-  -- the first of the three tests
-  abbrev pub fits : Bool
-  fits = eqb (length bytes) tally_size && (fit && places_known places)
-
-  -- .. and as the code has it
-  pub unfit_by : {known : Bool} → known ≡ places_known places → not (eqb (length bytes) tally_size && (fit && known)) ≡ true → fits ≡ false
-  unfit_by {known} e t =
-      ap (λ (b : Bool). eqb (length bytes) tally_size && (fit && b)) (sym e) ∙ not-true (eqb (length bytes) tally_size && (fit && known)) t
-
-  pub fit_by : {known : Bool} → known ≡ places_known places → not (eqb (length bytes) tally_size && (fit && known)) ≡ false → fits ≡ true
-  fit_by {known} e t =
-      ap (λ (b : Bool). eqb (length bytes) tally_size && (fit && b)) (sym e) ∙ not-false (eqb (length bytes) tally_size && (fit && known)) t
-
-  refused_by : {n : ℕ} → n ≡ refusal_by bytes places count fit → eqb n 0 ≡ false → EntersPlaces bytes places count fit n bytes
-  refused_by {n} e z = record { refusal = e; refused = λ y. refl; taken = λ y. absurd (eqb-false n 0 z y) }
-
-  pub places_unfit : fits ≡ false → EntersPlaces bytes places count fit 5 bytes
-  unfolding refusal_by
-  places_unfit t = refused_by (sym (ap (λ (b : Bool). in_order b (unused_clear bytes) (room_for bytes places count)) t)) refl
-
-  pub places_unused : fits ≡ true → unused_clear bytes ≡ false → EntersPlaces bytes places count fit 4 bytes
-  unfolding refusal_by
-  places_unused t u = refused_by (λ i. in_order (sym t i) (sym u i) (room_for bytes places count)) refl
-
-  pub places_full : fits ≡ true → unused_clear bytes ≡ true → room_for bytes places count ≡ false → EntersPlaces bytes places count fit 9 bytes
-  unfolding refusal_by
-  places_full t u h = refused_by (λ i. in_order (sym t i) (sym u i) (sym h i)) refl
-
-  pub places_done : {bytes' : List ℕ} → fits ≡ true → unused_clear bytes ≡ true → room_for bytes places count ≡ true
-      → bytes' ≡ tallied_to tally_places bytes places count → EntersPlaces bytes places count fit 0 bytes'
-  unfolding refusal_by
-  places_done t u h w = record { refusal = λ i. in_order (sym t i) (sym u i) (sym h i); refused = λ z. absurd (z refl); taken = λ z. w }
-
-  pub length_of : fits ≡ true → length bytes ≡ tally_size
-  length_of t = eqb-true (length bytes) tally_size (and_left (eqb (length bytes) tally_size) (fit && places_known places) t)
-
-  pub known_by : fits ≡ true → places_known places ≡ true
-  known_by t = and_right fit (places_known places) (and_right (eqb (length bytes) tally_size) (fit && places_known places) t)
-
--- ---- the same of a judge
+-- ---- by numbers, and of a judge
 
 module _ (bytes : List ℕ) (j : Judge) (places : List ℕ) (p : PlacesOf j.reports places) {fit : Bool}
     (f : fit ≡ fits_by j.capacity j.count) where

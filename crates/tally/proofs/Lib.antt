@@ -3,7 +3,6 @@ pub mod Widths
 pub mod Tests
 pub mod Counts
 pub mod Used
-pub mod Places
 pub mod Clears
 pub mod Raising
 pub mod Entering

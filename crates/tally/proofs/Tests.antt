@@ -5,6 +5,10 @@ use Prim.Native.Nat.{ℕ, zero, suc, ◌+◌, ◌≤◌, ◌<◌}
 use native.Mathlib.Omega.{arith}
 use native.Mathlib.Decide.{dec_lt, ℕ_discrete}
 use Rattle.record.proofs.Booleans.{and_left, and_right, both}
+use Rattle.std.proofs.Common.{List, length, get_or, take, add-one}
+use Rattle.std.specs.List.{list_all}
+use Rattle.std.proofs.lemmas.List.Folds.{list_all_more}
+use lib.Seq.{take_all}
 use Rattle.tally.specs.Stored.{all_to}
 
 pub all_none : (test : ℕ → Bool) → all_to 0 test ≡ true
@@ -14,6 +18,18 @@ all_none test = refl
 pub all_next : (n : ℕ) (test : ℕ → Bool) → all_to (n + 1) test ≡ (all_to n test && test n)
 unfolding all_to
 all_next n test = let e : n + 1 ≡ suc n = omega arith in ap (λ (k : ℕ). all_to k test) e
+
+-- a test of the elements of a list is that of its places
+pub all_list : (test : ℕ → Bool) (xs : List ℕ) → list_all test xs ≡ all_to (length xs) (λ k. test (get_or xs k 0))
+unfolding all_to
+all_list test xs = sym (ap (list_all test) (take_all (length xs) xs (omega arith))) ∙ front (length xs) (omega arith)
+  where
+    front : (n : ℕ) → n ≤ length xs → list_all test (take n xs) ≡ all_to n (λ k. test (get_or xs k 0))
+    front zero l = refl
+    front (suc n) l =
+        ap (λ (m : ℕ). list_all test (take m xs)) (sym (add-one n))
+        ∙ list_all_more test xs n 0 (omega arith)
+        ∙ ap (λ (b : Bool). b && test (get_or xs n 0)) (front n (omega arith))
 
 -- both ways: the test of each place, and of all
 pub all_at : (n : ℕ) (test : ℕ → Bool) → all_to n test ≡ true → (i : ℕ) → i < n → test i ≡ true

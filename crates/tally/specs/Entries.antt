@@ -1,10 +1,10 @@
 -- An entry of a judge into a stored tally: what it is refused for, and what it leaves.
-use Rattle.std.specs.Prelude.{◌≡◌, Bool, cond, ◌&&◌, ◌||◌, List, [], ◌∷◌, ℕ, ◌+◌, ◌*◌, length, eqb, ltb}
+use Rattle.std.specs.Prelude.{◌≡◌, Bool, cond, ◌&&◌, ◌||◌, List, [], ◌∷◌, ℕ, ◌+◌, ◌*◌, length, eqb, ltb, Result, Ok, Err}
 use Rattle.rules.specs.Checks.{check_count}
 use Rattle.decision.specs.Refusals.{fits_by}
 use Rattle.judge.specs.declared.state.Judge.{Judge}
 use Rattle.tally.specs.declared.Refusal.{Refusal}
-use Rattle.tally.specs.declared.Refusal.TheVariants.{Nothing, Unfit, Unused, Full}
+use Rattle.tally.specs.declared.Refusal.TheVariants.{Unfit, Unused, Full}
 use Rattle.tally.specs.declared.Entered.{Entered}
 use Rattle.tally.specs.Stored.{holds, stored, number_in, all_to}
 use Rattle.tally.specs.Counts.{place_count, tally_places, judge_place, is_used, count_at}
@@ -17,12 +17,12 @@ width = 4
 abbrev pub tally_size : ℕ
 tally_size = width * tally_places
 
--- the numbers of the refusals
-abbrev pub refusal_number : Refusal → ℕ
-refusal_number Nothing = 0
-refusal_number Unfit = 5
-refusal_number Unused = 4
-refusal_number Full = 9
+-- the numbers of the refusals, 0 where there was none
+abbrev pub refusal_number : Result (Unit {0}) Refusal → ℕ
+refusal_number (Ok done) = 0
+refusal_number (Err Unfit) = 5
+refusal_number (Err Unused) = 4
+refusal_number (Err Full) = 9
 
 -- a judge that can be entered: its reports are not refused, and no check lacks the kind of its fault
 unfoldable pub is_entry : Judge → Bool

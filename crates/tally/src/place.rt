@@ -5,6 +5,7 @@ ghost use Rattle.tally.specs.Counts.{verdict_place, used_places};
 ghost use Rattle.tally.specs.Raising.{PlacesOf, places_known};
 
 use rules::{CHECKS, Report, Verdict, kinds_of};
+use std::array;
 
 // The places of a record.
 pub const PLACES: usize = 10;
@@ -17,6 +18,9 @@ pub(crate) const TRACES: usize = PLACES * CHECKS;
 
 pub(crate) const TAKEN: usize = TRACES + 1;
 
+// The used places of the totals.
+const TOTALS: usize = 2;
+
 // The place of a verdict in the record of a check with so many kinds; past the record where the check lacks the kind.
 fn verdict_place(kinds: usize, verdict: Verdict) -> usize
     ensures { result ≡ verdict_place kinds verdict }
@@ -24,51 +28,31 @@ fn verdict_place(kinds: usize, verdict: Verdict) -> usize
     match verdict {
         Verdict::Pass => 0,
         Verdict::Faulted(kind) => {
-            let at = kind as usize;
-            if (1 <= at) & (at <= kinds) {
-                at
-            } else {
-                PLACES
-            }
+            let at = usize::from(kind);
+            if 1 <= at && at <= kinds { at } else { PLACES }
         }
     }
 }
 
-// Writes the place of each report's verdict.
-pub(crate) fn find_places(places: &mut [usize], reports: [Report; CHECKS])
-    requires { length places.old ≡ check_count }
-    ensures { PlacesOf reports places.new }
+// The place of each report's verdict.
+pub(crate) fn find_places(reports: [Report; CHECKS]) -> [usize; CHECKS]
+    ensures { PlacesOf reports result }
 {
-    let mut k = 0usize;
-    while k < CHECKS {
-        let report = reports[k];
-        let verdict = report.verdict;
-        places[k] = verdict_place(kinds_of(k), verdict);
-        k += 1;
-    }
+    array::from_fn(|k| verdict_place(kinds_of(k), reports[k].verdict))
 }
 
 // Whether each is a place of a record.
-pub(crate) fn all_known(places: &[usize]) -> bool
-    requires { length places.now ≡ check_count }
+pub(crate) fn all_known(places: &[usize; CHECKS]) -> bool
     ensures { result ≡ places_known places.now }
 {
-    let mut known = true;
-    let mut k = 0usize;
-    while k < CHECKS {
-        known = known & (places[k] < PLACES);
-        k += 1;
-    }
-    known
+    places.iter().all(|at| *at < PLACES)
 }
 
 // How many places of a record are used: of a check its passes and a place for each kind, of the last two.
+#[tactic(auto, using(crate::proofs::Counts::kinds_few), unfolding(crate::specs::Counts::used_places))]
 pub(crate) fn used_places(k: usize) -> usize
     requires { k ≤ check_count }
     ensures { result ≡ used_places k }
 {
-    if k < CHECKS {
-        return kinds_of(k) + 1;
-    }
-    2
+    if k < CHECKS { kinds_of(k) + 1 } else { TOTALS }
 }

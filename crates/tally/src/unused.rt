@@ -11,13 +11,7 @@ fn clear_from(tally: &[u8], from: usize, to: usize) -> bool
     requires { (from ≤ to) × (width * to ≤ length tally.now) }
     ensures { result ≡ clear_from width tally.now from to }
 {
-    let mut clear = true;
-    let mut i = from;
-    while i < to {
-        clear = clear & (read_count(tally, i) == 0);
-        i += 1;
-    }
-    clear
+    (from..to).all(|i| read_count(tally, i) == 0)
 }
 
 // Record by record: the places after its used ones.
@@ -25,12 +19,5 @@ pub(crate) fn unused_clear(tally: &[u8]) -> bool
     requires { length tally.now ≡ tally_size }
     ensures { result ≡ unused_clear tally.now }
 {
-    let mut clear = true;
-    let mut k = 0usize;
-    while k < RECORDS {
-        let from = PLACES * k + used_places(k);
-        clear = clear & clear_from(tally, from, PLACES * k + PLACES);
-        k += 1;
-    }
-    clear
+    (0..RECORDS).all(|k| clear_from(tally, PLACES * k + used_places(k), PLACES * k + PLACES))
 }

@@ -6,4 +6,4 @@ pub returns : goal.returns
 returns c =
     let a = c.args in
     let f = c.fits-fit.ensures in
-    enters a.tally.now a.judge _ c.find_places.ensures f.0 f.1 c.enter_places-refusal.ensures
+    enters a.tally.now a.judge _ c.find_places-places.ensures f.0 f.1 c.enter_places-refusal.ensures
