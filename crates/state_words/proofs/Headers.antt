@@ -4,11 +4,10 @@ use mathlib.Core.List.{List, [], ◌∷◌, ◌++◌, append-nil}
 use Prim.Native.Nat.{ℕ, zero, suc, ◌+◌, ◌*◌, ◌≤◌, ◌<◌}
 use native.Mathlib.Omega.{arith}
 use lib.ListN.{length, get_or, take, drop, set, length-drop, drop_of_length-le, take-append-drop}
-use lib.Seq.{drop-cons, get_or-drop, take_all, sets}
+use lib.Seq.{drop-cons, get_or-drop, take_all}
 use Rattle.rules.specs.declared.Opening.{Opening}
 use Rattle.rules.specs.declared.Report.{Report}
 use Rattle.rows.specs.Rows.{rows_size, verdict_in, report_in, reports_from, reports_in, KindsFit}
-use Rattle.record.proofs.Lists.{sets_front}
 use Rattle.rows.proofs.ReadBack.{rows_read}
 use Rattle.judge.specs.declared.state.Judge.{Judge}
 use Rattle.judge.specs.Traces.{judge_by}
@@ -128,24 +127,3 @@ module _ (words : List ℕ) (size : length words ≡ state_size) where
       → set (set (with_rows words rows) 1 n) 2 e ≡ state_words (judge_by (opening_in words) (get_or words 0 0) n e rows)
   with_counts rows n e s =
       ap (λ (l : List ℕ). set (set l 1 n) 2 e) (with_read rows) ∙ words_by (get_or words 0 0) n e (get_or words 3 0) rows s
-
--- ---- the rows, copied word by word
-
--- what is still to be copied from a place on
-pub copy_next : (out words : List ℕ) (at i : ℕ) → at + i < length words
-    → sets out i (drop (at + i) words) ≡ sets (set out i (get_or words (at + i) 0)) (i + 1) (drop (at + (i + 1)) words)
-copy_next out words at i l =
-    let m : suc (at + i) ≡ at + (i + 1) = omega arith in
-    let n : suc i ≡ i + 1 = omega arith in
-    ap (sets out i) (drop-cons words (at + i) 0 l)
-    ∙ (λ k. sets (set out i (get_or words (at + i) 0)) (n k) (drop (m k) words))
-
-pub copy_end : (out words : List ℕ) (at i : ℕ) → length words ≤ at + i → sets out i (drop (at + i) words) ≡ out
-copy_end out words at i l = ap (sets out i) (drop_of_length-le words {i = at + i} l)
-
--- the rows at the front of a list
-pub rows_front : (words out : List ℕ) → length words ≡ state_size → rows_size ≤ length out
-    → sets out 0 (drop header_size words) ≡ drop header_size words ++ drop rows_size out
-rows_front words out e l =
-    let n : length (drop header_size words) ≡ rows_size = rows_length words e in
-    sets_front out (drop header_size words) (omega arith) ∙ ap (λ (k : ℕ). drop header_size words ++ drop k out) n

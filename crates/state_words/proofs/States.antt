@@ -1,6 +1,6 @@
 -- Words read as a judge are that judge's words, and the test of words as facts. Assumes nothing.
-use mathlib.Core.Path.{◌≡◌, refl, sym, ap, ◌∙◌}
-use mathlib.Core.Bool.{Bool, true, false, cond, ◌&&◌}
+use mathlib.Core.Path.{◌≡◌, refl, ap, ◌∙◌}
+use mathlib.Core.Bool.{Bool, true, false, cond}
 use mathlib.Core.List.{List, ◌∷◌}
 use Rattle.std.specs.Prelude.{None, Some}
 use Prim.Native.Nat.{ℕ, ◌*◌}
@@ -8,11 +8,10 @@ use native.Mathlib.Omega.{arith}
 use lib.ListN.{length, get_or, drop, set}
 use lib.Seq.{sets}
 use lib.Dec.{eqb}
-use borrow.Author.Tests.{eqb-true, eq-eqb, ne_eqb}
-use Rattle.rules.specs.declared.Report.{Report}
+use borrow.Author.Tests.{eqb-true}
 use Rattle.rules.specs.Checks.{check_count}
 use Rattle.record.proofs.Booleans.{never, and_left, and_right}
-use Rattle.rows.specs.Rows.{rows_size, rows_of, reports_in, kinds_fit}
+use Rattle.rows.specs.Rows.{rows_size, rows_of, kinds_fit}
 use Rattle.rows.proofs.Rows.{length_rows}
 use Rattle.record.proofs.Lists.{sets_all}
 use Rattle.rows.proofs.ReadBack.{kinds_fit_lem}
@@ -28,24 +27,6 @@ words_read words h =
     header_read words (omega arith)
     ∙ words_by (get_or words 0 0) (get_or words 1 0) (get_or words 2 0) (get_or words 3 0) (drop header_size words) (rows_length words h)
     ∙ ap state_words (judge_by_lem words)
-
--- a judge is read: the header's numbers, and the reports past it
-pub judge_read : (words : List ℕ) {rs : List Report} → rs ≡ reports_in words header_size
-    → ◌≡◌ {A = Judge} (record {
-      capacity = get_or words 0 0;
-      count = get_or words 1 0;
-      events = get_or words 2 0;
-      opening = record { tenant = get_or words 3 0 };
-      reports = rs;
-    }) (judge_in words)
-unfolding judge_in
-judge_read words e = λ i. record {
-  capacity = get_or words 0 0;
-  count = get_or words 1 0;
-  events = get_or words 2 0;
-  opening = record { tenant = get_or words 3 0 };
-  reports = e i;
-}
 
 -- four stores and the rows after them write a judge's words
 pub state_written : (words : List ℕ) (j : Judge) → length words ≡ state_size → length j.reports ≡ check_count
@@ -64,14 +45,6 @@ state_facts words e = record {
   size = eqb-true (length words) state_size (and_left (eqb (length words) state_size) (kinds_fit words header_size) e);
   kinds = kinds_fit_lem words header_size (and_right (eqb (length words) state_size) (kinds_fit words header_size) e);
 }
-
-pub state_size_lem : (words : List ℕ) → (length words ≡ state_size → ⊥) → is_state words ≡ false
-unfolding is_state
-state_size_lem words e = ap (λ (b : Bool). b && kinds_fit words header_size) (ne_eqb (length words) state_size e)
-
-pub state_kinds : (words : List ℕ) → length words ≡ state_size → kinds_fit words header_size ≡ is_state words
-unfolding is_state
-state_kinds words e = sym (ap (λ (b : Bool). b && kinds_fit words header_size) (eq-eqb (length words) state_size e))
 
 module _ (words : List ℕ) where
   fit_by : {j : Judge} (b : Bool) → b ≡ true → cond b (Some (judge_in words)) None ≡ Some j → judge_in words ≡ j

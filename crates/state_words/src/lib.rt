@@ -24,21 +24,19 @@ pub const TENANT_WORD: usize = 3;
 pub const STATE_WORDS: usize = HEADER + ROWS;
 
 // Whether words are a judge's.
+#[tactic(auto, unfolding(crate::specs::StateWords::is_state))]
 pub fn is_state(state: &[u64]) -> bool
     ensures { result ≡ is_state state.now }
 {
-    if state.len() != STATE_WORDS {
-        return false;
-    }
-    kinds_fit(state, HEADER)
+    state.len() == STATE_WORDS && kinds_fit(state, HEADER)
 }
 
 // The judge that words stand for.
+#[tactic(auto, unfolding(crate::specs::StateWords::judge_in))]
 pub fn read_state(state: &[u64]) -> Judge
     requires { IsState state.now }
     ensures { result ≡ judge_in state.now }
 {
-    let reports = read_rows(state, HEADER);
     Judge {
         capacity: state[CAPACITY_WORD] as usize,
         count: state[COUNT_WORD] as usize,
@@ -46,7 +44,7 @@ pub fn read_state(state: &[u64]) -> Judge
         opening: Opening {
             tenant: state[TENANT_WORD],
         },
-        reports: reports,
+        reports: read_rows(state, HEADER),
     }
 }
 
@@ -55,13 +53,11 @@ pub fn write_state(state: &mut [u64], judge: Judge)
     requires { length state.old ≡ state_size }
     ensures { state.new ≡ state_words judge }
 {
-    let reports = judge.reports;
-    let opening = judge.opening;
     state[CAPACITY_WORD] = judge.capacity as u64;
     state[COUNT_WORD] = judge.count as u64;
     state[EVENTS_WORD] = judge.events;
-    state[TENANT_WORD] = opening.tenant;
-    write_rows(state, HEADER, reports);
+    state[TENANT_WORD] = judge.opening.tenant;
+    write_rows(state, HEADER, judge.reports);
 }
 
 // Copies the words of a judge's reports to the front of a list.
@@ -69,9 +65,5 @@ pub fn copy_rows(state: &[u64], out: &mut [u64])
     requires { (length state.now ≡ state_size) × (rows_size ≤ length out.old) }
     ensures { out.new ≡ drop header_size state.now ++ drop rows_size out.old }
 {
-    let mut i = 0usize;
-    while i < ROWS {
-        out[i] = state[HEADER + i];
-        i += 1;
-    }
+    out[..ROWS].copy_from_slice(&state[HEADER..]);
 }
