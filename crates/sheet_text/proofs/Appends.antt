@@ -1,11 +1,10 @@
 -- Laws of text written into a list of bytes: two texts one after the other are one text, and what room is left after one.
 use mathlib.Core.Path.{◌≡◌, refl, sym, ap, ◌∙◌}
 use mathlib.Core.List.{List, [], ◌∷◌, ◌++◌}
-use Prim.Native.Nat.{ℕ, ◌+◌, ◌≤◌, ◌<◌}
+use Prim.Native.Nat.{ℕ, ◌+◌, ◌≤◌}
 use native.Mathlib.Omega.{arith}
-use native.Mathlib.Numerals.{add-one}
-use lib.ListN.{length, take, drop, get_or, set, length-append}
-use lib.Seq.{sets, length-sets, sets-eq, take-suc, take_all}
+use lib.ListN.{length, drop, set, length-append}
+use lib.Seq.{sets, length-sets, sets-eq}
 use Rattle.record.proofs.Lists.{sets_append}
 use Rattle.sheet_text.specs.Appends.{Appended}
 
@@ -35,21 +34,6 @@ appended_length {p} {out} {out'} {at} {r} {a} w = ap length w.is ∙ length-sets
 pub room_after : {p : ℕ} {out mid : List ℕ} {at m : ℕ} {a : List ℕ} → Appended p out mid at a m → (next : ℕ) → at + p + next ≤ length out
     → m + next ≤ length mid
 room_after w next h = omega (arith, w.short, w.end, appended_length w)
-
--- a text is appended byte by byte
-pub appended_take : {p : ℕ} {out mid : List ℕ} (bytes : List ℕ) {at : ℕ} (i : ℕ) → i < length bytes
-    → Appended p out mid at (take i bytes) (at + i)
-    → Appended (p + 1) out (set mid (at + i) (get_or bytes i 0)) at (take (i + 1) bytes) (at + (i + 1))
-appended_take {p} {out} {mid} bytes {at} i l w =
-    let e : take (i + 1) bytes ≡ take i bytes ++ get_or bytes i 0 ∷ [] = ap (λ (n : ℕ). take n bytes) (add-one i) ∙ take-suc bytes i 0 l in
-    let f : at + i + 1 ≡ at + (i + 1) = omega arith in
-    rw e (rw f at (w ⨾ appended_byte {out = mid} {at = at + i} {b = get_or bytes i 0}))
-
-pub appended_all : {p : ℕ} {out mid bytes : List ℕ} {at : ℕ} (i : ℕ) → length bytes ≤ i → Appended p out mid at (take i bytes) (at + i)
-    → Appended (length bytes) out mid at bytes (at + i)
-appended_all {p} {out} {mid} {bytes} {at} i l w =
-    let v : Appended p out mid at bytes (at + i) = rw (take_all i bytes l) at w in
-    record { short = omega arith; end = v.end; is = v.is }
 
 -- at the front, the text and then the rest of the list
 pub appended_front : {p : ℕ} {out out' bytes : List ℕ} {r : ℕ} → p ≤ length out → Appended p out out' 0 bytes r

@@ -1,4 +1,4 @@
--- The cases of a line, the line of one check more, and the cases of what the last line says of a refusal.
+-- The line of one check more, and the cases of what the last line says of a refusal.
 use mathlib.Core.Path.{◌≡◌, refl, sym, ap, ◌∙◌, subst}
 use mathlib.Core.Bool.{Bool, cond}
 use mathlib.Core.List.{List, [], ◌++◌}
@@ -7,21 +7,12 @@ use native.Mathlib.Numerals.{add-one}
 use native.Mathlib.Omega.{arith}
 use lib.ListN.{get_or}
 use borrow.Author.Tests.{eq-eqb, ne_eqb}
-use Rattle.rules.specs.declared.Evidence.{Evidence}
 use Rattle.rules.specs.declared.Report.{Report}
-use Rattle.rules.specs.declared.Verdict.{Verdict}
-use Rattle.rules.specs.declared.Verdict.TheVariants.{Pass, Faulted}
 use Rattle.rules.specs.Reports.{passed}
 use Rattle.rules.specs.Checks.{check_count}
-use Rattle.sheet_text.specs.Sheets.{text, spaced, pass_line, fault_line, line_of, line, name_at, line_size, lines_to, lines, lines_size, refused_text, last_line}
+use Rattle.sheet_text.specs.Sheets.{text, spaced, line, name_at, line_size, lines_to, lines, lines_size, refused_text, last_line}
 use Rattle.sheet_text.specs.Appends.{Appended}
 use Rattle.sheet_text.proofs.Appends.{appended_none, appended_most, ◌⨾◌}
-
-pub line_pass : (name : List ℕ) (v : Verdict) (at : ℕ) (e : Evidence) → v ≡ Pass → line_of name v at e ≡ pass_line name
-line_pass name v at e h = ap (λ (w : Verdict). line_of name w at e) h
-
-pub line_fault : (name : List ℕ) (v : Verdict) (kind at : ℕ) (e : Evidence) → v ≡ Faulted kind → line_of name v at e ≡ fault_line name kind at e
-line_fault name v kind at e h = ap (λ (w : Verdict). line_of name w at e) h
 
 -- the lines of no check, of one check more, and of all
 pub lines_none : {out : List ℕ} (reports : List Report) → Appended 0 out out 0 (lines_to 0 reports) 0

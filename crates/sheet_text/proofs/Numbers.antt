@@ -22,3 +22,6 @@ pub appended_last : {out mid : List ℕ} {at m : ℕ} (n : ℕ) → 10 ≤ n →
     → Appended (length (decimal n)) out (set mid m (48 + n % 10)) at (decimal n) (m + 1)
 appended_last n l w =
     appended_most {p = length (decimal (n / 10)) + 1} (omega (arith, large_length n l)) (rw (decimal_large n l) (w ⨾ appended_byte))
+
+-- what a function that writes a number so asks for
+pub ruleset number_laws = (small_length, large_length, appended_digit, appended_last)

@@ -1,21 +1,16 @@
--- What a buffer is after a sheet was written to its front, by its length.
+-- What a buffer is after a sheet was written to its front: of one that holds every sheet, and of any.
 use mathlib.Core.Path.{◌≡◌, sym, ap, ◌∙◌}
 use mathlib.Core.Bool.{Bool, true, false, cond}
 use mathlib.Core.List.{List, ◌++◌}
-use Prim.Native.Nat.{ℕ, ◌+◌, ◌≤◌, ◌<◌}
+use Prim.Native.Nat.{ℕ, ◌+◌, ◌≤◌}
 use native.Mathlib.Omega.{arith}
 use lib.ListN.{length, take, drop, length-append, length-drop}
 use lib.Seq.{take_at}
 use lib.Dec.{leb}
-use borrow.Author.Tests.{le-leb, lt-leb}
+use borrow.Author.Tests.{le-leb}
 use Rattle.sheet_text.specs.Sheets.{lines_size, sheet_size, printed, printed_length}
 use Rattle.sheet_text.specs.Appends.{Appended}
 use Rattle.sheet_text.proofs.Appends.{appended_front}
-
-pub short_sheet : (bytes out : List ℕ) → length out < sheet_size → (0 ≡ printed_length bytes out) × (out ≡ printed bytes out)
-short_sheet bytes out l =
-    let e = lt-leb sheet_size (length out) l in
-    (sym (ap (λ (b : Bool). cond b (length bytes) 0) e), sym (ap (λ (b : Bool). cond b (bytes ++ drop (length bytes) out) out) e))
 
 pub long_sheet : {out out' bytes : List ℕ} {r : ℕ} → sheet_size ≤ length out → Appended (lines_size + 82) out out' 0 bytes r
     → (r ≡ printed_length bytes out) × (out' ≡ printed bytes out)

@@ -8,25 +8,23 @@ pub(crate) fn append_text(out: &mut [u8], at: usize, bytes: &[u8]) -> usize
     requires { at + length bytes.now ≤ length out.old }
     ensures { Appended (length bytes.now) out.old out.new at bytes.now result }
 {
-    let mut i = 0usize;
-    while i < bytes.len() {
-        out[at + i] = bytes[i];
-        i += 1;
-    }
-    at + i
+    let end = at + bytes.len();
+    out[at..end].copy_from_slice(bytes);
+    end
 }
 
 // A number in decimal: its tenth part first, then its last digit.
+#[tactic(auto, using(crate::proofs::Numbers::number_laws))]
 fn append_number(out: &mut [u8], at: usize, n: u64) -> usize
     requires { at + length (decimal n) ≤ length out.old }
     ensures { Appended (length (decimal n)) out.old out.new at (decimal n) result }
 {
     if n < 10 {
-        out[at] = 48 + (n as u8);
+        out[at] = b'0' + n as u8;
         return at + 1;
     }
     let end = append_number(out, at, n / 10);
-    out[end] = 48 + ((n % 10) as u8);
+    out[end] = b'0' + (n % 10) as u8;
     end + 1
 }
 

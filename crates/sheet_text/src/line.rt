@@ -13,11 +13,11 @@ fn append_evidence(out: &mut [u8], at: usize, e: Evidence) -> usize
     requires { at + 105 ≤ length out.old }
     ensures { Appended 105 out.old out.new at (evidence_text e) result }
 {
-    let a = append_spaced(out, at, e.e0);
-    let b = append_spaced(out, a, e.e1);
-    let c = append_spaced(out, b, e.e2);
-    let d = append_spaced(out, c, e.e3);
-    append_spaced(out, d, e.e4)
+    let end = append_spaced(out, at, e.e0);
+    let end = append_spaced(out, end, e.e1);
+    let end = append_spaced(out, end, e.e2);
+    let end = append_spaced(out, end, e.e3);
+    append_spaced(out, end, e.e4)
 }
 
 fn append_pass(out: &mut [u8], at: usize, check: usize) -> usize
@@ -39,14 +39,14 @@ fn append_fault(
     requires { (at + line_size ≤ length out.old) × (check < check_count) }
     ensures { Appended line_size out.old out.new at (fault_line (name_at check) kind position e) result }
 {
-    let a = append_name(out, at, check);
-    let b = append_text(out, a, b" fault");
-    let c = append_spaced(out, b, kind);
-    let d = append_text(out, c, b" at");
-    let f = append_spaced(out, d, position);
-    let g = append_text(out, f, b":");
-    let h = append_evidence(out, g, e);
-    append_text(out, h, b"\n")
+    let end = append_name(out, at, check);
+    let end = append_text(out, end, b" fault");
+    let end = append_spaced(out, end, kind);
+    let end = append_text(out, end, b" at");
+    let end = append_spaced(out, end, position);
+    let end = append_text(out, end, b":");
+    let end = append_evidence(out, end, e);
+    append_text(out, end, b"\n")
 }
 
 // The line of the check at a place of the table: its name, and what it reports.
@@ -54,11 +54,16 @@ fn append_report(out: &mut [u8], at: usize, check: usize, report: Report) -> usi
     requires { (at + line_size ≤ length out.old) × (check < check_count) }
     ensures { Appended line_size out.old out.new at (line (name_at check) report) result }
 {
-    let verdict = report.verdict;
-    let e = report.evidence;
-    match verdict {
+    match report.verdict {
         Verdict::Pass => append_pass(out, at, check),
-        Verdict::Faulted(kind) => append_fault(out, at, check, kind as u64, report.at, e),
+        Verdict::Faulted(kind) => append_fault(
+            out,
+            at,
+            check,
+            u64::from(kind),
+            report.at,
+            report.evidence,
+        ),
     }
 }
 
@@ -67,12 +72,9 @@ pub(crate) fn append_lines(out: &mut [u8], reports: [Report; CHECKS]) -> usize
     requires { lines_size ≤ length out.old }
     ensures { Appended lines_size out.old out.new 0 (lines reports) result }
 {
-    let mut end = 0usize;
-    let mut k = 0usize;
-    while k < CHECKS {
-        let report = reports[k];
-        end = append_report(out, end, k, report);
-        k += 1;
+    let mut end = 0;
+    for (k, report) in reports.iter().enumerate() {
+        end = append_report(out, end, k, *report);
     }
     end
 }
@@ -85,10 +87,10 @@ fn append_refused(out: &mut [u8], at: usize, refusal: u64, position: u64) -> usi
     if refusal == 0 {
         return at;
     }
-    let a = append_text(out, at, b" refused");
-    let b = append_spaced(out, a, refusal);
-    let c = append_text(out, b, b" at");
-    append_spaced(out, c, position)
+    let end = append_text(out, at, b" refused");
+    let end = append_spaced(out, end, refusal);
+    let end = append_text(out, end, b" at");
+    append_spaced(out, end, position)
 }
 
 // The last line: the records taken, and the refusal.
@@ -102,8 +104,8 @@ pub(crate) fn append_last(
     requires { at + 82 ≤ length out.old }
     ensures { Appended 82 out.old out.new at (last_line records refusal position) result }
 {
-    let a = append_text(out, at, b"records");
-    let b = append_spaced(out, a, records);
-    let c = append_refused(out, b, refusal, position);
-    append_text(out, c, b"\n")
+    let end = append_text(out, at, b"records");
+    let end = append_spaced(out, end, records);
+    let end = append_refused(out, end, refusal, position);
+    append_text(out, end, b"\n")
 }

@@ -1,13 +1,13 @@
 -- A ticket's bytes read back as its count and record, and their parts as they are written. Assumes nothing.
 use mathlib.Core.Path.{◌≡◌, sym, ap, ◌∙◌}
-use mathlib.Core.Bool.{Bool, true, false, ◌&&◌}
+use mathlib.Core.Bool.{true}
 use mathlib.Core.List.{List, ◌++◌, append_assoc}
 use Prim.Native.Nat.{ℕ, ◌+◌, ◌^◌, ◌≤◌, ◌<◌}
 use native.Mathlib.Omega.{arith}
 use lib.ListN.{length, take, drop, length-append}
 use lib.Seq.{sets, sets-eq, take_at, drop_at, drop-drop}
 use lib.Dec.{eqb}
-use borrow.Author.Tests.{leb-true, lt-leb, le-leb}
+use borrow.Author.Tests.{leb-true, le-leb}
 use Rattle.record.specs.Numbers.{little_endian, bytes_of}
 use Rattle.record.proofs.Written.{bytes_length, bytes_read}
 use Rattle.record.proofs.Booleans.{and_left}
@@ -34,15 +34,6 @@ ticket_record count rec = drop_at (bytes_of count_size count) rec count_size (by
 pub current_has : (bytes : List ℕ) (count : ℕ) → is_current bytes count ≡ true → count_size ≤ length bytes
 unfolding is_current
 current_has bytes count e = leb-true count_size (length bytes) (and_left (has_count bytes) (eqb (count_in bytes) count) e)
-
--- a list too short for a count
-pub current_short : (bytes : List ℕ) (count : ℕ) → length bytes < count_size → is_current bytes count ≡ false
-unfolding is_current
-current_short bytes count l = ap (λ (b : Bool). b && eqb (count_in bytes) count) (lt-leb count_size (length bytes) l)
-
-pub current_long : (bytes : List ℕ) (count : ℕ) → count_size ≤ length bytes → is_current bytes count ≡ eqb (count_in bytes) count
-unfolding is_current
-current_long bytes count l = ap (λ (b : Bool). b && eqb (count_in bytes) count) (le-leb count_size (length bytes) l)
 
 -- the count written at the front, and then the record in the place of what follows it
 pub ticket_written : (out rec : List ℕ) (count : ℕ) {counted part : List ℕ} → ticket_size ≤ length out → counted ≡ sets out 0 (bytes_of count_size count)

@@ -4,7 +4,6 @@
 ghost use Rattle.std.specs.Prelude.{◌≡◌, ◌++◌, ◌≤◌, length, drop, replicate};
 ghost use Rattle.ticket_bytes.specs.TicketBytes.{ticket_size, ticket_bytes, is_current};
 
-use history::log::append;
 use record::limits::RECORD_SIZE;
 use record::number::{u64_at, write_number};
 
@@ -19,7 +18,7 @@ pub fn write_ticket(out: &mut [u8], count: u64, rec: &[u8])
     ensures { out.new ≡ ticket_bytes count rec.now ++ drop ticket_size out.old }
 {
     write_number(out, 0, COUNT_SIZE, count);
-    append(&mut out[COUNT_SIZE..TICKET_SIZE], 0, rec);
+    out[COUNT_SIZE..TICKET_SIZE].copy_from_slice(rec);
 }
 
 // Writes a ticket of zeros.
@@ -27,16 +26,13 @@ pub fn clear_ticket(out: &mut [u8])
     requires { ticket_size ≤ length out.old }
     ensures { out.new ≡ ticket_bytes 0 (replicate 368 0) ++ drop ticket_size out.old }
 {
-    let zeros = [0u8; RECORD_SIZE];
-    write_ticket(out, 0, &zeros);
+    write_ticket(out, 0, &[0; RECORD_SIZE]);
 }
 
 // Whether a ticket's count is the one given. A list that is too short for a count has none.
+#[tactic(auto, unfolding(crate::specs::TicketBytes::is_current))]
 pub fn is_current(ticket: &[u8], count: u64) -> bool
     ensures { result ≡ is_current ticket.now count }
 {
-    if ticket.len() < COUNT_SIZE {
-        return false;
-    }
-    u64_at(ticket, 0) == count
+    ticket.len() >= COUNT_SIZE && u64_at(ticket, 0) == count
 }

@@ -1,6 +1,5 @@
 -- `append_spaced`: a space, and then the number.
-use native.Mathlib.Omega.{arith}
-use lib.ListN.{length}
+use Rattle.std.proofs.Common.{length, arith}
 use Rattle.sheet_text.specs.Sheets.{decimal, spaced}
 use Rattle.sheet_text.proofs.Appends.{appended_most, ◌⨾◌, room_after}
 use Rattle.sheet_text.proofs.Decimals.{decimal_length}

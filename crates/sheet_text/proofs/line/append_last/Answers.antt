@@ -5,4 +5,4 @@ use Rattle.sheet_text.proofs.line.append_last.Goals as goal
 
 pub returns : goal.returns
 unfolding last_line
-returns c = c.append_text-a.ensures ⨾ c.append_spaced-b.ensures ⨾ c.append_refused-c.ensures ⨾ c.append_text.ensures
+returns c = c.append_text-end.ensures ⨾ c.append_spaced-end.ensures ⨾ c.append_refused-end.ensures ⨾ c.append_text.ensures

@@ -1,5 +1,5 @@
 -- `append_pass`: the name, and then the word.
-use native.Mathlib.Omega.{arith}
+use Rattle.std.proofs.Common.{arith}
 use Rattle.sheet_text.specs.Sheets.{pass_line}
 use Rattle.sheet_text.proofs.Appends.{appended_most, ◌⨾◌}
 use Rattle.sheet_text.proofs.line.append_pass.Goals as goal

@@ -1,6 +1,5 @@
 -- `append_refused`: nothing, or the parts of the text, one after the other.
-use mathlib.Core.Path.{refl}
-use native.Mathlib.Omega.{arith}
+use Rattle.std.proofs.Common.{refl, arith}
 use Rattle.sheet_text.proofs.Appends.{appended_none, appended_most, ◌⨾◌}
 use Rattle.sheet_text.proofs.Lines.{refused_none, refused_some}
 use Rattle.sheet_text.proofs.line.append_refused.Goals as goal
@@ -10,7 +9,7 @@ returns-then-refusal-eq0 c = rw (refused_none _ c.args.position c.if-refusal-eq0
 
 pub returns : goal.returns
 returns c =
-    rw (refused_some _ c.args.position c.if-refusal-eq0.false) (c.append_text-a.ensures
-    ⨾ c.append_spaced-b.ensures
-    ⨾ c.append_text-c.ensures
+    rw (refused_some _ c.args.position c.if-refusal-eq0.false) (c.append_text-end.ensures
+    ⨾ c.append_spaced-end.ensures
+    ⨾ c.append_text-end-2.ensures
     ⨾ c.append_spaced.ensures)
