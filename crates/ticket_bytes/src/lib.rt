@@ -4,6 +4,7 @@
 ghost use Rattle.std.specs.Prelude.{◌≡◌, ◌++◌, ◌≤◌, length, drop, replicate};
 ghost use Rattle.ticket_bytes.specs.TicketBytes.{ticket_size, ticket_bytes, is_current};
 
+use record::Record;
 use record::limits::RECORD_SIZE;
 use record::number::{u64_at, write_number};
 
@@ -13,8 +14,8 @@ pub const COUNT_SIZE: usize = 8;
 pub const TICKET_SIZE: usize = COUNT_SIZE + RECORD_SIZE;
 
 // Writes a ticket at the front of a list.
-pub fn write_ticket(out: &mut [u8], count: u64, rec: &[u8])
-    requires { (ticket_size ≤ length out.old) × (length rec.now ≡ 368) }
+pub fn write_ticket(out: &mut [u8], count: u64, rec: &Record)
+    requires { ticket_size ≤ length out.old }
     ensures { out.new ≡ ticket_bytes count rec.now ++ drop ticket_size out.old }
 {
     write_number(out, 0, COUNT_SIZE, count);
