@@ -21,7 +21,9 @@ use Rattle.rules.specs.Events.{stray}
 use Rattle.history.specs.Bounds.{Bounds}
 use Rattle.history.specs.Logs.{hist}
 use Rattle.history.proofs.Logs.{hist_length}
-use Rattle.decision.specs.Refusals.{suits_by, or_next, refusal_after, push_refusal_by, PushNumber}
+use Rattle.decision.specs.declared.refusal.Refusal.{Refusal}
+use Rattle.decision.specs.declared.refusal.Refusal.TheVariants.{Length, Kind, Value, Unused, Judge, Full, Opening, Output, Ticket, Event}
+use Rattle.decision.specs.Refusals.{refusal_number, suits_by, or_next, refusal_after, push_refusal_by, PushNumber}
 use Rattle.decision.proofs.Suiting.{Suiting, suiting, bounded}
 
 -- ---- what a push is refused for, where the judge's numbers and the lengths suit
@@ -43,6 +45,19 @@ module _ (cap count : ℕ) (log : List ℕ) (words : ℕ) (bytes : List ℕ) (su
   roomed {full} e g f =
       let many : length (hist log count) ≡ count = hist_length log count in
       sym (rw (e, g, many, f)) ∙ by_table
+
+-- a refusal's number is not 0
+pub refuses : (f : Refusal) → refusal_number f ≡ 0 → ⊥
+refuses Length e = omega arith
+refuses Kind e = omega arith
+refuses Value e = omega arith
+refuses Unused e = omega arith
+refuses Judge e = omega arith
+refuses Full e = omega arith
+refuses Opening e = omega arith
+refuses Output e = omega arith
+refuses Ticket e = omega arith
+refuses Event e = omega arith
 
 -- a kind that is none of document 01's
 unknown_kind : (kind : ℕ) → (1 ≤ kind → kind ≤ 12 → ⊥) → shape_of kind ≡ None

@@ -1,8 +1,8 @@
 -- The row of a check after one more record, for any check of the table: left by a record that does not concern it, kept after a fault,
 -- else entered. Assumes nothing.
 use Rattle.std.specs.Prelude.{None, Some}
-use mathlib.Core.Path.{◌≡◌, refl, sym, ap, ◌∙◌}
-use mathlib.Core.Bool.{true, false}
+use mathlib.Core.Path.{◌≡◌, refl, sym, ap, subst, ◌∙◌}
+use mathlib.Core.Bool.{Bool, true, false}
 use mathlib.Core.List.{List, ◌∷◌}
 use Prim.Native.Nat.{ℕ, ◌*◌, ◌/◌, ◌%◌, ◌≤◌, ◌<◌}
 use native.Mathlib.Omega.{arith}
@@ -24,16 +24,16 @@ use Rattle.rules.proofs.Reports.{report_of_step, report_of_kept}
 use Rattle.rules.proofs.Checks.{check_at_lem}
 use Rattle.rules.proofs.CaseKinds.{CaseKinds, case_kinds, VerdictWithin, report_kinds}
 use Rattle.rules.proofs.Concerns.{Unconcerned, unconcerned, unmoved}
-use Rattle.rows.specs.Rows.{kind_word, report_words, rows_of, entered_in, EntersIn}
+use Rattle.rows.specs.Rows.{kind_word, report_words, rows_of, entered_in, KindsFit, EntersIn}
 use Rattle.rows.proofs.ReadBack.{rows_set, row_kind}
 use Rattle.history.specs.Logs.{hist}
 use Rattle.history.proofs.Logs.{hist_length}
 use Rattle.events.specs.Numbers.{event_in}
 use Rattle.events.proofs.Numbers.{event_is}
-use Rattle.decision.specs.Refusals.{concerned_bits}
+use Rattle.decision.specs.declared.Concerned.{Concerned}
+use Rattle.decision.specs.Refusals.{concerned_of}
 use Rattle.intake.specs.Words.{Indexed}
-use Rattle.intake.specs.Steps.{Ready, Tells, SteppedIn, JudgedIn}
-use Rattle.decision.proofs.Bits.{bit, read, off}
+use Rattle.intake.specs.Steps.{AsksIn, SteppedIn, JudgedIn}
 
 -- ---- what a row's first word tells
 
@@ -88,51 +88,56 @@ entered_size : (rows : List ℕ) (k : ℕ) (c : Case) (n : ℕ) → length (ente
 entered_size rows k None n = refl
 entered_size rows k (Some f) n = length-sets rows (7 * k) (report_words (faulted n f.kind f.evidence))
 
--- ---- the three ways of a check's step
+-- ---- a check's step
 
-module _ (k w : ℕ) (l : k < check_count) (cap : ℕ) (log work : List ℕ) (n : ℕ) (bytes : List ℕ) (concerned at : ℕ) (rows : List ℕ) where
-  pub left : (concerned / w % 2 ≡ 1 → ⊥) → (o : Opening) → SteppedIn k w o cap log work n bytes concerned at rows rows
-  left z o = record {
-    size = refl;
-    fits = λ f. f;
-    steps = λ i p t rs many are old.
-        stays k l o (decode bytes) (hist log n) rows rs many are old (check_at_lem Unconcerned unconcerned k l o (decode bytes) (hist log n) (t z));
-  }
+module _ (k : ℕ) (l : k < check_count) (o : Opening) (cap : ℕ) (log work : List ℕ) (n : ℕ) (bytes : List ℕ) (at : ℕ) (answers : Case → Type 0)
+    (says : (c : Case) → answers c → Indexed cap (hist log n) work → (report_by o (hist log n) (check_at k)).verdict ≡ Pass
+    → c ≡ case_at o (check_at k) (decode bytes ∷ hist log n)) where
+  stepped_by : {concerned : Bool} {rows rows' : List ℕ} → (b p : Bool) → concerned ≡ b → eqb (get_or rows (7 * k) 0) 0 ≡ p
+      → AsksIn answers k concerned at rows rows' → SteppedIn k o cap log work n bytes concerned at rows rows'
+  stepped_by {concerned} {rows} {rows'} false p eb ep a =
+      let e = a.left eb in
+      record {
+        size = ap length e;
+        fits = λ f. subst (λ t. KindsFit t 0) (sym e) f;
+        steps = λ i p t rs many are old.
+            e ∙ stays k l o (decode bytes) (hist log n) rows rs many are old (check_at_lem Unconcerned unconcerned k l o (decode bytes) (hist log n) (t eb));
+      }
+  stepped_by {concerned} {rows} {rows'} true false eb ep a =
+      let e = a.kept ep in
+      record {
+        size = ap length e;
+        fits = λ f. subst (λ t. KindsFit t 0) (sym e) f;
+        steps = λ i p t rs many are old. e ∙ fault_stays k l o (decode bytes) (hist log n) rows rs many are old ep;
+      }
+  stepped_by {concerned} {rows} {rows'} true true eb ep a =
+      let w = a.asked eb ep in
+      let c = w.0 in
+      let e : EntersIn rows k c at rows' = w.2 in
+      record {
+        size = ap length e.is ∙ entered_size rows k c at;
+        fits = e.fits;
+        steps = λ i p t rs many are old.
+            let x = decode bytes in
+            let h = hist log n in
+            let v = is_pass k l o x h rows rs many are old ep in
+            e.is ∙ ap (entered_in rows k c) p ∙ entered_by k l o x h rows rs many are old c (sym (says c w.1 i v)) v;
+      }
 
-  pub kept : eqb (get_or rows (7 * k) 0) 0 ≡ false → (o : Opening) → SteppedIn k w o cap log work n bytes concerned at rows rows
-  kept z o = record {
-    size = refl;
-    fits = λ f. f;
-    steps = λ i p t rs many are old. fault_stays k l o (decode bytes) (hist log n) rows rs many are old z;
-  }
-
-  pub stepped : eqb (get_or rows (7 * k) 0) 0 ≡ true → (c : Case) (rows' : List ℕ) → EntersIn rows k c at rows' → (o : Opening)
-      → (Indexed cap (hist log n) work → (report_by o (hist log n) (check_at k)).verdict ≡ Pass → c ≡ case_at o (check_at k) (decode bytes ∷ hist log n))
-      → SteppedIn k w o cap log work n bytes concerned at rows rows'
-  stepped z c rows' e o says = record {
-    size = ap length e.is ∙ entered_size rows k c at;
-    fits = e.fits;
-    steps = λ i p t rs many are old.
-        let x = decode bytes in
-        let h = hist log n in
-        let v = is_pass k l o x h rows rs many are old z in
-        e.is ∙ ap (entered_in rows k c) p ∙ entered_by k l o x h rows rs many are old c (sym (says i v)) v;
-  }
+  pub stepped : {concerned : Bool} {rows rows' : List ℕ} → AsksIn answers k concerned at rows rows'
+      → SteppedIn k o cap log work n bytes concerned at rows rows'
+  stepped {concerned} {rows} a = stepped_by concerned (eqb (get_or rows (7 * k) 0) 0) refl refl a
 
 -- ---- all of them
 
-pub ready_more : {log work bytes rows rows' : List ℕ} {n cap : ℕ} → Ready log work n cap bytes rows → length rows' ≡ length rows
-    → Ready log work n cap bytes rows'
-ready_more r e = record { bounds = r.bounds; size = r.size; rows_length = e ∙ r.rows_length }
-
 -- each check has stepped its own row
-pub judged_all : (o : Opening) (cap : ℕ) (log work : List ℕ) (n e : ℕ) (bytes : List ℕ) (concerned at : ℕ)
+pub judged_all : (o : Opening) (cap : ℕ) (log work : List ℕ) (n e : ℕ) (bytes : List ℕ) (concerned : Concerned) (at : ℕ)
     → at ≡ event_in e (decode bytes) → n ≤ 4096
     → {r0 r1 r2 r3 r4 r5 r6 r7 r8 : List ℕ}
-    → SteppedIn 0 1 o cap log work n bytes concerned at r0 r1 → SteppedIn 1 2 o cap log work n bytes concerned at r1 r2
-    → SteppedIn 2 4 o cap log work n bytes concerned at r2 r3 → SteppedIn 3 8 o cap log work n bytes concerned at r3 r4
-    → SteppedIn 4 16 o cap log work n bytes concerned at r4 r5 → SteppedIn 5 32 o cap log work n bytes concerned at r5 r6
-    → SteppedIn 6 64 o cap log work n bytes concerned at r6 r7 → SteppedIn 7 128 o cap log work n bytes concerned at r7 r8
+    → SteppedIn 0 o cap log work n bytes concerned.agreement at r0 r1 → SteppedIn 1 o cap log work n bytes concerned.overlap at r1 r2
+    → SteppedIn 2 o cap log work n bytes concerned.install at r2 r3 → SteppedIn 3 o cap log work n bytes concerned.twice at r3 r4
+    → SteppedIn 4 o cap log work n bytes concerned.half at r4 r5 → SteppedIn 5 o cap log work n bytes concerned.generations at r5 r6
+    → SteppedIn 6 o cap log work n bytes concerned.ids at r6 r7 → SteppedIn 7 o cap log work n bytes concerned.meta at r7 r8
     → JudgedIn o cap log work n e bytes concerned r0 r8
 unfolding reports_of
 judged_all o cap log work n e bytes concerned at z l s0 s1 s2 s3 s4 s5 s6 s7 = record {
@@ -141,15 +146,13 @@ judged_all o cap log work n e bytes concerned at z l s0 s1 s2 s3 s4 s5 s6 s7 = r
   judged = λ i v q are.
       let x = decode bytes in
       let p : at ≡ events (x ∷ hist log n) = z ∙ event_is e x (hist log n) v (let m = hist_length log n in omega arith) in
-      let b = read x.kind in
-      let tells : (k w : ℕ) → concerned_bits x.kind / w % 2 ≡ bit x.kind k → Tells k w concerned x =
-      λ k w u z. off x.kind k w u (λ y. z (ap (λ (d : ℕ). d / w % 2) q ∙ y)) in
-      let a1 = s0.steps i p (tells 0 1 b.b0) _ refl are refl in
-      let a2 = s1.steps i p (tells 1 2 b.b1) _ refl a1 refl in
-      let a3 = s2.steps i p (tells 2 4 b.b2) _ refl a2 refl in
-      let a4 = s3.steps i p (tells 3 8 b.b3) _ refl a3 refl in
-      let a5 = s4.steps i p (tells 4 16 b.b4) _ refl a4 refl in
-      let a6 = s5.steps i p (tells 5 32 b.b5) _ refl a5 refl in
-      let a7 = s6.steps i p (tells 6 64 b.b6) _ refl a6 refl in
-      s7.steps i p (tells 7 128 b.b7) _ refl a7 refl;
+      let tells : (f : Concerned → Bool) → f concerned ≡ f (concerned_of x.kind) = λ f. ap f q in
+      let a1 = s0.steps i p (λ z. sym (tells (λ c. c.agreement)) ∙ z) _ refl are refl in
+      let a2 = s1.steps i p (λ z. sym (tells (λ c. c.overlap)) ∙ z) _ refl a1 refl in
+      let a3 = s2.steps i p (λ z. sym (tells (λ c. c.install)) ∙ z) _ refl a2 refl in
+      let a4 = s3.steps i p (λ z. sym (tells (λ c. c.twice)) ∙ z) _ refl a3 refl in
+      let a5 = s4.steps i p (λ z. sym (tells (λ c. c.half)) ∙ z) _ refl a4 refl in
+      let a6 = s5.steps i p (λ z. sym (tells (λ c. c.generations)) ∙ z) _ refl a5 refl in
+      let a7 = s6.steps i p (λ z. sym (tells (λ c. c.ids)) ∙ z) _ refl a6 refl in
+      s7.steps i p (λ z. sym (tells (λ c. c.meta)) ∙ z) _ refl a7 refl;
 }

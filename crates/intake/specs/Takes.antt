@@ -25,12 +25,11 @@ pub record PreviewsIn (o : Opening) (cap n e : ℕ) (log work rows bytes : List 
   pub size : length rows' ≡ length rows
   pub fits : KindsFit rows 0 → KindsFit rows' 0
 
--- what the keeping of a record asks for: room for one more, and a whole record
-pub record Keepable (cap n : ℕ) (log work bytes : List ℕ) : Type 0 where
+-- what the keeping of a record asks for: room for one more
+pub record Keepable (cap n : ℕ) (log work : List ℕ) : Type 0 where
   pub bounds : Bounds log work n cap
   pub holds : 368 * n + 368 ≤ length log
   pub room : n < cap
-  pub size : length bytes ≡ 368
 
 -- a record that is kept: its bytes in the log and no other byte of it changed, and its words noted
 pub record KeptIn (cap n : ℕ) (log work bytes log' work' : List ℕ) : Type 0 where

@@ -1,13 +1,15 @@
 // A record, noted as the next in every check's columns of the work area.
-ghost use Rattle.std.specs.Prelude.{◌≡◌, ◌<◌, length};
+ghost use Rattle.std.specs.Prelude.{◌<◌};
 ghost use Rattle.record.specs.Records.{decode};
 ghost use Rattle.history.specs.Bounds.{Bounds};
 ghost use Rattle.history.specs.Logs.{hist};
 ghost use Rattle.intake.specs.Words.{Noted};
 
+use record::Record;
+
 // A note that looks back by another's columns comes before it: half's before the owners', generations' before the descriptors'.
-pub fn note(log: &[u8], work: &mut [u64], n: usize, cap: usize, rec: &[u8])
-    requires { Bounds log.now work.old n cap × ((n < cap) × (length rec.now ≡ 368)) }
+pub fn note(log: &[u8], work: &mut [u64], n: usize, cap: usize, rec: &Record)
+    requires { Bounds log.now work.old n cap × (n < cap) }
     ensures { Noted cap (hist log.now n) (decode rec.now) work.old work.new }
 {
     splits::note::note(log, work, n, cap, rec);

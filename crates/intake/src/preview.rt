@@ -1,30 +1,45 @@
 // One record, judged without being taken.
-ghost use Rattle.std.specs.Prelude.{◌≡◌, length};
+ghost use Rattle.std.specs.Prelude.{◌≡◌, IfOk, length};
 ghost use Rattle.rows.specs.Rows.{rows_size};
+ghost use Rattle.decision.specs.Refusals.{outcome_number};
 ghost use Rattle.intake.specs.Takes.{PreviewsIn};
 
 use crate::judge::judge;
-use decision::{REFUSED, decide};
+use decision::decide;
+use decision::refusal::Refusal;
+use history::past::Past;
+use record::Record;
 
-// Gives 0, and makes the rows those that the record would leave after n others of so many events; or gives the number of its refusal, and the rows
-// are as they stood. Log and work area are lent for reading only.
+// Gives the record that the bytes are, and makes the rows those that it would leave after n others of so many events; or gives its refusal, and
+// the rows are as they stood. Log and work area are lent for reading only.
 pub fn preview<'a>(
-    log: &'a [u8],
+    log: &[u8],
     work: &[u64],
     rows: &mut [u64],
     n: usize,
     events: u64,
     cap: usize,
     tenant: u64,
-    rec: &'a [u8],
-) -> u64
+    bytes: &'a [u8],
+) -> Result<&'a Record, Refusal>
     requires { length rows.old ≡ rows_size }
-    ensures { PreviewsIn (record { tenant = tenant }) cap n events log.now work.now rows.old rec.now result rows.new }
+    ensures judges { PreviewsIn (record { tenant = tenant }) cap n events log.now work.now rows.old bytes.now (outcome_number result) rows.new }
+    ensures whole { IfOk result (λ rec. rec.now ≡ bytes.now) }
 {
-    let decided = decide(log, work.len(), n, cap, rec);
-    if REFUSED <= decided {
-        return decided - REFUSED;
-    }
-    judge(log, work, rows, n, events, cap, tenant, rec, decided);
-    0
+    let decided = decide(log, work.len(), n, cap, bytes)?;
+    let past = Past {
+        log,
+        work,
+        count: n,
+        cap,
+    };
+    judge(
+        &past,
+        rows,
+        events,
+        tenant,
+        decided.record,
+        decided.concerned,
+    );
+    Ok(decided.record)
 }

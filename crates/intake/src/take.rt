@@ -1,13 +1,16 @@
 // One record, taken or refused.
-ghost use Rattle.std.specs.Prelude.{◌≡◌, length};
+ghost use Rattle.std.specs.Prelude.{◌≡◌, IfOk, length};
 ghost use Rattle.rows.specs.Rows.{rows_size};
+ghost use Rattle.decision.specs.Refusals.{outcome_number};
 ghost use Rattle.intake.specs.Takes.{TakesIn};
 
 use crate::keep::keep;
 use crate::preview::preview;
+use decision::refusal::Refusal;
+use record::Record;
 
-// Takes a record after n others of so many events, and gives 0; or gives the number of its refusal, and everything is as it stood.
-pub fn take(
+// Takes the record that the bytes are, after n others of so many events, and gives it; or gives its refusal, and everything is as it stood.
+pub fn take<'a>(
     log: &mut [u8],
     work: &mut [u64],
     rows: &mut [u64],
@@ -15,15 +18,13 @@ pub fn take(
     events: u64,
     cap: usize,
     tenant: u64,
-    rec: &[u8],
-) -> u64
+    bytes: &'a [u8],
+) -> Result<&'a Record, Refusal>
     requires { length rows.old ≡ rows_size }
-    ensures { TakesIn (record { tenant = tenant }) cap n events log.old work.old rows.old rec.now result log.new work.new rows.new }
+    ensures takes { TakesIn (record { tenant = tenant }) cap n events log.old work.old rows.old bytes.now (outcome_number result) log.new work.new rows.new }
+    ensures whole { IfOk result (λ rec. rec.now ≡ bytes.now) }
 {
-    let refusal = preview(log, work, rows, n, events, cap, tenant, rec);
-    if refusal != 0 {
-        return refusal;
-    }
+    let rec = preview(log, work, rows, n, events, cap, tenant, bytes)?;
     keep(log, work, n, cap, rec);
-    0
+    Ok(rec)
 }

@@ -1,72 +1,30 @@
 -- `judge`: each check steps its own row, one after the other.
-use mathlib.Core.Path.{◌∙◌}
+use Rattle.one_owner_per_key.specs.Columns.{OwnersIndexed}
+use Rattle.rules.specs.OneOwnerPerKey.{install_at}
+use Rattle.record.specs.Records.{decode}
+use mathlib.Core.Path.{◌≡◌}
 use Prim.Native.Nat.{◌≤◌}
 use native.Mathlib.Omega.{arith}
+use borrow.Author.Rules.{rules}
 use Rattle.rules.specs.declared.Opening.{Opening}
-use Rattle.intake.proofs.Steps.{ready_more, judged_all}
+use Rattle.rules.specs.Descriptors.{agreement}
+use Rattle.rules.proofs.Concerns.{agreement_none, pass_clear}
+use Rattle.history.specs.Logs.{hist}
+use Rattle.intake.proofs.Steps.{stepped, judged_all}
 use Rattle.intake.proofs.judge.judge.Goals as goal
-
--- an opening to ask sizes of
-abbrev any : Opening
-any = record { tenant = 0 }
-
-pub next_overlap-requires : goal.next_overlap-requires
-next_overlap-requires c =
-    ready_more c.requires (c.next_agreement.ensures any).size
-
-pub next_install-requires : goal.next_install-requires
-next_install-requires c =
-    ready_more c.requires ((c.next_overlap.ensures any).size ∙ (c.next_agreement.ensures any).size)
-
-pub next_twice-requires : goal.next_twice-requires
-next_twice-requires c =
-    ready_more c.requires
-    (c.next_install.ensures.size ∙ (c.next_overlap.ensures any).size ∙ (c.next_agreement.ensures any).size)
-
-pub next_half-requires : goal.next_half-requires
-next_half-requires c =
-    ready_more c.requires
-    ((c.next_twice.ensures any).size ∙ c.next_install.ensures.size ∙ (c.next_overlap.ensures any).size
-    ∙ (c.next_agreement.ensures any).size)
-
-pub next_generations-requires : goal.next_generations-requires
-next_generations-requires c =
-    ready_more c.requires
-    ((c.next_half.ensures any).size ∙ (c.next_twice.ensures any).size ∙ c.next_install.ensures.size
-    ∙ (c.next_overlap.ensures any).size ∙ (c.next_agreement.ensures any).size)
-
-pub next_ids-requires : goal.next_ids-requires
-next_ids-requires c =
-    ready_more c.requires
-    ((c.next_generations.ensures any).size ∙ (c.next_half.ensures any).size ∙ (c.next_twice.ensures any).size
-    ∙ c.next_install.ensures.size ∙ (c.next_overlap.ensures any).size ∙ (c.next_agreement.ensures any).size)
-
-pub next_meta-requires : goal.next_meta-requires
-next_meta-requires c =
-    ready_more c.requires
-    ((c.next_ids.ensures any).size ∙ (c.next_generations.ensures any).size ∙ (c.next_half.ensures any).size
-    ∙ (c.next_twice.ensures any).size ∙ c.next_install.ensures.size ∙ (c.next_overlap.ensures any).size
-    ∙ (c.next_agreement.ensures any).size)
-
-pub shape_of-rows : goal.shape_of-rows
-shape_of-rows c =
-    (c.next_meta.ensures any).size ∙ (c.next_ids.ensures any).size ∙ (c.next_generations.ensures any).size
-    ∙ (c.next_half.ensures any).size ∙ (c.next_twice.ensures any).size ∙ c.next_install.ensures.size
-    ∙ (c.next_overlap.ensures any).size ∙ (c.next_agreement.ensures any).size
 
 pub returns : goal.returns
 returns c =
-    let a = c.args in
-    let o : Opening = record { tenant = a.tenant } in
-    let few : a.n ≤ 4096 = let b = c.requires.bounds in let w = b.within in let m = b.small in omega arith in
-    judged_all o a.cap a.log.now a.work.now a.n a.events a.rec.now a.concerned c.event_after-position.result
-    c.event_after-position.ensures
-    few
-    (c.next_agreement.ensures o)
-    (c.next_overlap.ensures o)
-    c.next_install.ensures
-    (c.next_twice.ensures o)
-    (c.next_half.ensures o)
-    (c.next_generations.ensures o)
-    (c.next_ids.ensures o)
-    (c.next_meta.ensures o)
+    let p = c.args.past.now in
+    let o : Opening = record { tenant = c.args.tenant } in
+    let at = c.event_after-position.result in
+    let few : p.count ≤ 4096 = omega arith in
+    judged_all o p.cap p.log.now p.work.now p.count c.args.events c.args.rec.now c.args.concerned at c.event_after-position.ensures few
+    (stepped 0 (omega arith) o p.cap p.log.now p.work.now p.count c.args.rec.now at _ (λ a k i v. (rw (k.2, k.3) at k.4) i.descriptors (pass_clear agreement agreement_none (hist p.log.now p.count) v)) c.step.ensures)
+    (stepped 1 (omega arith) o p.cap p.log.now p.work.now p.count c.args.rec.now at _ (λ a k i v. (rw (k.2, k.3) at k.4) i.owners) c.step-2.ensures)
+    (stepped 2 (omega arith) o p.cap p.log.now p.work.now p.count c.args.rec.now at _ (λ a k i v. (rw (k.2, k.3) at k.4) i.owners) c.step-3.ensures)
+    (stepped 3 (omega arith) o p.cap p.log.now p.work.now p.count c.args.rec.now at _ (λ a k i v. (rw (k.2, k.3) at k.4) i.owners) c.step-4.ensures)
+    (stepped 4 (omega arith) o p.cap p.log.now p.work.now p.count c.args.rec.now at _ (λ a k i v. (rw (k.2, k.3) at k.4) (i.owners, i.half)) c.step-5.ensures)
+    (stepped 5 (omega arith) o p.cap p.log.now p.work.now p.count c.args.rec.now at _ (λ a k i v. (rw (k.2, k.3) at k.4) i.firsts i.descriptors i.generations v) c.step-6.ensures)
+    (stepped 6 (omega arith) o p.cap p.log.now p.work.now p.count c.args.rec.now at _ (λ a k i v. (rw (k.2, k.3) at k.4) i.firsts i.ids) c.step-7.ensures)
+    (stepped 7 (omega arith) o p.cap p.log.now p.work.now p.count c.args.rec.now at _ (λ a k i v. (rw (k.2, k.3) at k.4) i.descriptors i.meta v) c.step-8.ensures)

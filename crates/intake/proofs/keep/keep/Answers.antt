@@ -2,10 +2,10 @@
 use Rattle.intake.proofs.keep.keep.Goals as goal
 
 pub note-requires : goal.note-requires
-note-requires c = let p = c.requires in (p.bounds, (p.room, p.size))
+note-requires c = (c.requires.bounds, c.requires.room)
 
 pub append-requires : goal.append-requires
-append-requires c = let p = c.requires in (p.holds, p.size)
+append-requires c = c.requires.holds
 
 pub returns : goal.returns
 returns c =

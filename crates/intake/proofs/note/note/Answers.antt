@@ -33,5 +33,5 @@ pub returns : goal.returns
 returns c =
     let a = c.args in
     let d = c.note-6.ensures in
-    noted_all (hist_length a.log.now a.n) c.requires.1.0 c.note.ensures c.note-2.ensures c.note-3.ensures c.note-4.ensures
+    noted_all (hist_length a.log.now a.n) c.requires.1 c.note.ensures c.note-2.ensures c.note-3.ensures c.note-4.ensures
     c.note-5.ensures d.len d.others d.indexed

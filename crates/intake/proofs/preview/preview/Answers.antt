@@ -1,22 +1,15 @@
--- `preview`: refused, and nothing is touched; else judged.
-use native.Mathlib.Omega.{arith}
-use Rattle.intake.proofs.Takes.{previews_off, previews_on, judge_ready}
+-- `preview`: what is not refused has room, and is judged.
+use mathlib.Core.Path.{sym}
+use Rattle.decision.proofs.Decisions.{room_of, room_bounds}
+use Rattle.intake.proofs.Takes.{previews_on}
 use Rattle.intake.proofs.preview.preview.Goals as goal
 
-pub returns-then-decided-ge-REFUSED : goal.returns-then-decided-ge-REFUSED
-returns-then-decided-ge-REFUSED c =
-    let a = c.args in
-    previews_off (record { tenant = c.args.tenant }) a.cap a.n a.events c.args.log.now c.args.work.now c.args.rows.now c.args.rec.now
-    c.decide-decided.ensures c.if-decided-ge-REFUSED.true
+pub invariant_of-past : goal.invariant_of-past
+invariant_of-past c =
+    let b = room_bounds (room_of {bytes = c.args.bytes.now} (sym c.in_ok-decided.ensures.refused)) in
+    record { log_holds = b.log_holds; work_holds = b.work_holds; within = b.within; positive = b.positive; small = b.small }
 
-pub judge-requires : goal.judge-requires
-judge-requires c =
-    let a = c.args in
-    judge_ready (record { tenant = c.args.tenant }) a.cap a.n a.events c.args.log.now c.args.work.now c.args.rows.now c.args.rec.now
-    c.decide-decided.ensures (omega (arith, c.if-decided-ge-REFUSED.false)) c.requires
-
-pub returns : goal.returns
-returns c =
-    let a = c.args in
-    previews_on (record { tenant = c.args.tenant }) a.cap a.n a.events c.args.log.now c.args.work.now c.args.rows.now c.args.rec.now
-    c.decide-decided.ensures (omega (arith, c.if-decided-ge-REFUSED.false)) c.judge.ensures
+pub returns-clause-judges : goal.returns-clause-judges
+returns-clause-judges c =
+    previews_on (record { tenant = c.args.tenant }) c.args.cap c.args.n c.args.events c.args.log.now c.args.work.now c.args.rows.now c.args.bytes.now
+    c.in_ok-decided.ensures.refused c.in_ok-decided.ensures.taken.0 c.in_ok-decided.ensures.taken.1 c.judge.ensures
