@@ -2,7 +2,7 @@
 use mathlib.Core.Path.{◌≡◌, refl}
 use mathlib.Core.Bool.{false}
 use lib.Dec.{eqb}
-use Rattle.judge.specs.States.{refusal_number}
+use Rattle.decision.specs.Refusals.{outcome_number}
 use Rattle.judge.specs.declared.state.Refusal.{Refusal}
 use Rattle.judge.specs.declared.state.Refusal.TheVariants.{Nothing, Length, Kind, Value, Unused, Judge as Unfit, Full, Opening, Output, Ticket as Stale, Event}
 

@@ -19,7 +19,8 @@ use Rattle.judge.specs.declared.opening.Opened.{Opened}
 use Rattle.judge.specs.declared.trace.Traced.{Traced}
 use Rattle.judge.specs.declared.state.Judge.{Judge}
 use Rattle.judge.specs.declared.state.Refusal.TheVariants.{Nothing}
-use Rattle.judge.specs.States.{State, refusal_number, push_refusal, takes}
+use Rattle.decision.specs.Refusals.{outcome_number}
+use Rattle.judge.specs.States.{State, push_refusal, takes}
 use Rattle.decision.specs.Refusals.{push_refusal_by}
 use Rattle.intake.specs.Words.{Indexed}
 use Rattle.intake.specs.Takes.{TakesIn}
@@ -87,7 +88,7 @@ zeros_fit = record { kind = λ k l. let e = get_or-replicate {A = ℕ} 56 (0 + 7
 -- an opening that is not refused, and what the trace comes to from there; or one that is
 module _ (n : Opening) (log work trace : List ℕ) (o : Opened) {work₁ : List ℕ} (p : Opens n (length log) work o work₁) where
   pub traced_on : {log' work' : List ℕ} (r : Traced) → o.refusal ≡ Nothing
-      → Feeds (state_of (judge_by o.judge.opening o.judge.capacity 0 0 (replicate 56 0)) log work₁) trace 0 (refusal_number r.refusal) r.at
+      → Feeds (state_of (judge_by o.judge.opening o.judge.capacity 0 0 (replicate 56 0)) log work₁) trace 0 (outcome_number r.outcome) r.at
       (state_of r.judge log' work')
       → TracedBy n log work trace r log' work'
   traced_on {log'} {work'} r e w = record {
@@ -95,7 +96,7 @@ module _ (n : Opening) (log work trace : List ℕ) (o : Opened) {work₁ : List 
     opened = λ c f.
         let q = p.opened c f in
         let j = ap (λ (j : Judge). judge_by j.opening j.capacity 0 0 (replicate 56 0)) q.1 ∙ fresh_rows c n in
-        subst (λ (s : State). Feeds s trace 0 (refusal_number r.refusal) r.at (state_of r.judge log' work')) (λ i. state_of (j i) log (q.2 i)) w;
+        subst (λ (s : State). Feeds s trace 0 (outcome_number r.outcome) r.at (state_of r.judge log' work')) (λ i. state_of (j i) log (q.2 i)) w;
   }
 
   pub traced_off : eqb (refusal_number o.refusal) 0 ≡ false

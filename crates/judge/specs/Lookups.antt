@@ -11,7 +11,7 @@ use Rattle.judge.specs.declared.lookup.Looked.{Looked}
 use Rattle.judge.specs.declared.lookup.Question.{Question}
 use Rattle.judge.specs.declared.lookup.Question.TheVariants.{Before, At, FirstAtGeneration, Statements, IsEmpty, HoldersOf, Blocks}
 use Rattle.judge.specs.declared.state.Judge.{Judge}
-use Rattle.judge.specs.States.{refusal_number}
+use Rattle.decision.specs.Refusals.{outcome_number}
 use Rattle.decision.specs.Refusals.{suits_by}
 use Rattle.intake.specs.Words.{Indexed}
 
@@ -68,13 +68,13 @@ lends j log work = suits_by j.capacity j.count (length log) (length work)
 
 -- the answer of a history: its words at the front of the list, the rest left; where they do not fit 8, 0, and the list as it was
 pub record Answered (q : Question) (h : History) (out out' : List ℕ) (r : Looked) : Type 0 where
-  pub refusal : refusal_number r.refusal ≡ cond (too_short (words_of q h) out) 8 0
+  pub refusal : outcome_number r.outcome ≡ cond (too_short (words_of q h) out) 8 0
   pub value : r.value ≡ cond (too_short (words_of q h) out) 0 (value_of q h)
   pub list : out' ≡ cond (too_short (words_of q h) out) out (words_of q h ++ drop (length (words_of q h)) out)
 
 -- refused by 8: no answer, and the list as it was
 pub record Short (out out' : List ℕ) (r : Looked) : Type 0 where
-  pub refusal : refusal_number r.refusal ≡ 8
+  pub refusal : outcome_number r.outcome ≡ 8
   pub value : r.value ≡ 0
   pub list : out' ≡ out
 
@@ -83,7 +83,7 @@ pub record Short (out out' : List ℕ) (r : Looked) : Type 0 where
 -- where the columns are those of the log's records, their answer
 pub record LookedBy (q : Question) (j : Judge) (log work out out' : List ℕ) (r : Looked) : Type 0 where
   pub judge : r.judge ≡ j
-  pub refused : lends j log work ≡ false → (refusal_number r.refusal ≡ 5) × (r.value ≡ value_of q []) × (out' ≡ out)
-  pub lent : lends j log work ≡ true → (refusal_number r.refusal ≡ 0) ⊎ Short out out' r
-  pub bare : lends j log work ≡ true → writes q ≡ false → (refusal_number r.refusal ≡ 0) × (out' ≡ out)
+  pub refused : lends j log work ≡ false → (outcome_number r.outcome ≡ 5) × (r.value ≡ value_of q []) × (out' ≡ out)
+  pub lent : lends j log work ≡ true → (outcome_number r.outcome ≡ 0) ⊎ Short out out' r
+  pub bare : lends j log work ≡ true → writes q ≡ false → (outcome_number r.outcome ≡ 0) × (out' ≡ out)
   pub answered : lends j log work ≡ true → Indexed j.capacity (hist log j.count) work → Answered q (hist log j.count) out out' r

@@ -5,7 +5,7 @@ use Rattle.rules.specs.Reports.{passed}
 use Rattle.rules.specs.Checks.{check_count}
 use Rattle.judge.specs.declared.opening.Opened.{Opened}
 use Rattle.judge.specs.declared.state.Judge.{Judge}
-use Rattle.judge.specs.States.{refusal_number}
+use Rattle.decision.specs.Refusals.{outcome_number}
 
 -- a capacity from 1 to 4,096 whose log has 368 × C bytes and whose work area has 32 × C words
 pub record Fits (logs words c : ℕ) : Type 0 where
@@ -23,6 +23,6 @@ fresh_of capacity opening = record { capacity = capacity; count = 0; events = 0;
 -- zeroes the work area"
 pub record Opens (opening : Opening) (logs : ℕ) (work : List ℕ) (r : Opened) (work' : List ℕ) : Type 0 where
   pub refused : ((c : ℕ) → Fits logs (length work) c → ⊥)
-      → (refusal_number r.refusal ≡ 7) × (r.judge ≡ fresh_of 0 opening) × (work' ≡ work)
+      → (outcome_number r.outcome ≡ 7) × (r.judge ≡ fresh_of 0 opening) × (work' ≡ work)
   pub opened : (c : ℕ) → Fits logs (length work) c
-      → (refusal_number r.refusal ≡ 0) × (r.judge ≡ fresh_of c opening) × (work' ≡ replicate (length work) 0)
+      → (outcome_number r.outcome ≡ 0) × (r.judge ≡ fresh_of c opening) × (work' ≡ replicate (length work) 0)

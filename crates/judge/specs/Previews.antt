@@ -11,7 +11,8 @@ use Rattle.judge.specs.declared.push.Pushed as Answer
 use Rattle.judge.specs.declared.state.Judge.{Judge}
 use Rattle.judge.specs.declared.ticket.Ticket.{Ticket}
 use Rattle.judge.specs.Tickets.{ticket_of, no_ticket}
-use Rattle.judge.specs.States.{State, refusal_number, push_refusal, commit_refusal, takes}
+use Rattle.decision.specs.Refusals.{outcome_number}
+use Rattle.judge.specs.States.{State, push_refusal, commit_refusal, takes}
 use Rattle.judge.specs.Pushes.{After, Committed, state_of}
 
 -- under a refusal: "the present reports (eight passes under 5)"
@@ -33,9 +34,9 @@ pub record Previews (s : State) (bytes : List ℕ) (refusal : ℕ) (reports : Li
 -- the call: that, and the judge as it was given. Log and work area are lent for reading only
 pub record PreviewedBy (j : Judge) (log work bytes : List ℕ) (r : Previewed) : Type 0 where
   pub judge : r.judge ≡ j
-  pub shows : Previews (state_of j log work) bytes (refusal_number r.refusal) r.reports r.ticket
+  pub shows : Previews (state_of j log work) bytes (outcome_number r.outcome) r.reports r.ticket
 
 -- what a call of commit promises: the refusal's number by the table, and what it leaves
 pub record CommittedBy (j : Judge) (log work : List ℕ) (k : Ticket) (r : Answer.Pushed) (log' work' : List ℕ) : Type 0 where
-  pub refusal : refusal_number r.refusal ≡ commit_refusal (state_of j log work) k
+  pub refusal : outcome_number r.outcome ≡ commit_refusal (state_of j log work) k
   pub leaves : Committed Indexed (state_of j log work) k (state_of r.judge log' work')

@@ -10,7 +10,8 @@ use Rattle.intake.specs.Words.{Indexed}
 use Rattle.judge.specs.declared.push.Pushed as Answer
 use Rattle.judge.specs.declared.state.Judge.{Judge}
 use Rattle.judge.specs.declared.ticket.Ticket.{Ticket}
-use Rattle.judge.specs.States.{State, suits, refusal_number, push_refusal, commit_refusal}
+use Rattle.decision.specs.Refusals.{outcome_number}
+use Rattle.judge.specs.States.{State, suits, push_refusal, commit_refusal}
 
 -- what the columns of the work area hold after a history, for a capacity
 abbrev pub Indexing : Type 1
@@ -55,5 +56,5 @@ state_of judge log work = record { judge = judge; log = log; work = work }
 
 -- what a call of push promises: the refusal's number by the table, and what it leaves
 pub record PushedBy (j : Judge) (log work bytes : List ℕ) (r : Answer.Pushed) (log' work' : List ℕ) : Type 0 where
-  pub refusal : refusal_number r.refusal ≡ push_refusal (state_of j log work) bytes
+  pub refusal : outcome_number r.outcome ≡ push_refusal (state_of j log work) bytes
   pub leaves : Pushed Indexed (state_of j log work) bytes (state_of r.judge log' work')

@@ -1,9 +1,7 @@
--- The judge with its log and its work area, the refusals' numbers, and which of them a push and a commit draw.
+-- The judge with its log and its work area, and which refusals a push and a commit draw.
 use Rattle.std.specs.Prelude.{Bool, cond, List, ℕ, length, eqb}
 use Rattle.decision.specs.Refusals.{suits_by, push_refusal_by}
 use Rattle.judge.specs.declared.state.Judge.{Judge}
-use Rattle.judge.specs.declared.state.Refusal.{Refusal}
-use Rattle.judge.specs.declared.state.Refusal.TheVariants.{Nothing, Length, Kind, Value, Unused, Judge as Unfit, Full, Opening, Output, Ticket as Stale, Event}
 use Rattle.judge.specs.declared.ticket.Ticket.{Ticket}
 
 -- a judge with the log and the work area that it is lent
@@ -11,20 +9,6 @@ pub record State : Type 0 where
   pub judge : Judge
   pub log : List ℕ
   pub work : List ℕ
-
--- document 01's and 02's numbers of the refusals
-abbrev pub refusal_number : Refusal → ℕ
-refusal_number Nothing = 0
-refusal_number Length = 1
-refusal_number Kind = 2
-refusal_number Value = 3
-refusal_number Unused = 4
-refusal_number Unfit = 5
-refusal_number Full = 6
-refusal_number Opening = 7
-refusal_number Output = 8
-refusal_number Stale = 10
-refusal_number Event = 11
 
 unfoldable pub suits : State → Bool
 suits s = suits_by s.judge.capacity s.judge.count (length s.log) (length s.work)

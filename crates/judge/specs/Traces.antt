@@ -4,7 +4,8 @@ use Rattle.rules.specs.declared.Opening.{Opening}
 use Rattle.rows.specs.Rows.{reports_in, KindsFit}
 use Rattle.judge.specs.declared.state.Judge.{Judge}
 use Rattle.judge.specs.declared.trace.Traced.{Traced}
-use Rattle.judge.specs.States.{State, refusal_number, push_refusal, takes}
+use Rattle.decision.specs.Refusals.{outcome_number}
+use Rattle.judge.specs.States.{State, push_refusal, takes}
 use Rattle.judge.specs.Openings.{Fits, fresh_of}
 use Rattle.decision.specs.Refusals.{PushNumber}
 use Rattle.intake.specs.Words.{Indexed}
@@ -35,6 +36,6 @@ pub record FedBy (o : Opening) (cap : ℕ) (log work rows trace : List ℕ) (f a
 -- opening's); earlier records remain taken". Without a refusal the number is that of the last record
 pub record TracedBy (o : Opening) (log work trace : List ℕ) (r : Traced) (log' work' : List ℕ) : Type 0 where
   pub refused : ((c : ℕ) → Fits (length log) (length work) c → ⊥)
-      → (refusal_number r.refusal ≡ 7) × (r.at ≡ 0) × (r.judge ≡ fresh_of 0 o) × (log' ≡ log) × (work' ≡ work)
+      → (outcome_number r.outcome ≡ 7) × (r.at ≡ 0) × (r.judge ≡ fresh_of 0 o) × (log' ≡ log) × (work' ≡ work)
   pub opened : (c : ℕ) → Fits (length log) (length work) c
-      → Feeds (state_of (fresh_of c o) log (replicate (length work) 0)) trace 0 (refusal_number r.refusal) r.at (state_of r.judge log' work')
+      → Feeds (state_of (fresh_of c o) log (replicate (length work) 0)) trace 0 (outcome_number r.outcome) r.at (state_of r.judge log' work')

@@ -2,14 +2,15 @@
 ghost use Rattle.std.specs.Prelude.{◌≡◌};
 ghost use Rattle.judge.specs.Answers.{report_no, ReportedBy};
 
-use crate::state::{Judge, Refusal};
+use crate::state::Judge;
+use decision::refusal::Refusal;
 use rows::pass;
 use rules::{CHECKS, Report};
 
 // What a call for a report gives: its refusal, the judge as it was given, and the report.
 #[derive(Clone, Copy)]
 pub struct Reported {
-    pub refusal: Refusal,
+    pub outcome: Result<(), Refusal>,
     pub judge: Judge,
     pub report: Report,
 }
@@ -37,17 +38,17 @@ impl Judge {
         let judge = fit.judge;
         if !fit.holds {
             return Reported {
-                refusal: Refusal::Judge,
-                judge: judge,
+                outcome: Err(Refusal::Judge),
+                judge,
                 report: pass(),
             };
         }
         let reports = judge.reports;
         let report = report_no(reports, k);
         Reported {
-            refusal: Refusal::Nothing,
-            judge: judge,
-            report: report,
+            outcome: Ok(()),
+            judge,
+            report,
         }
     }
 }

@@ -2,8 +2,9 @@
 ghost use Rattle.judge.specs.Previews.{CommittedBy};
 
 use crate::push::Pushed;
-use crate::state::{Judge, Refusal};
+use crate::state::Judge;
 use crate::ticket::Ticket;
+use decision::refusal::Refusal;
 
 impl Judge {
     // Pushes the ticket's record, unless its count is not the judge's. Nothing rests on where the ticket came from: all is tested anew.
@@ -14,8 +15,8 @@ impl Judge {
         let judge = suiting.judge;
         if suiting.holds & (ticket.count != judge.count) {
             return Pushed {
-                refusal: Refusal::Ticket,
-                judge: judge,
+                outcome: Err(Refusal::Ticket),
+                judge,
             };
         }
         let rec = ticket.rec;

@@ -1,11 +1,12 @@
 // The look-ups: one guard and one shape for every question.
 ghost use Rattle.std.specs.Prelude.{◌≡◌, []};
-ghost use Rattle.history.specs.Bounds.{Bounds};
 ghost use Rattle.judge.specs.Lookups.{found_number, truth, value_of, ListedBy, LookedBy};
 
-use crate::state::{Judge, Refusal};
+use crate::state::Judge;
+use decision::refusal::Refusal;
 use descriptors::cells::{is_empty, statements};
 use descriptors::value::{at, before, first_at_generation};
+use history::past::Past;
 use ids_unique::list::{blocks, holders_of};
 
 // What can be asked of the records taken, by the names of the Rust. The last two write a list.
@@ -24,7 +25,7 @@ pub enum Question {
 // statements, holders or blocks there are; 1 where no value has been put, else 0.
 #[derive(Clone, Copy)]
 pub struct Looked {
-    pub refusal: Refusal,
+    pub outcome: Result<(), Refusal>,
     pub judge: Judge,
     pub value: u64,
 }
@@ -54,30 +55,20 @@ fn of_none(question: Question) -> u64
 }
 
 // The answer of the records that the columns are of, or none where the list is too short for it.
-fn answer(
-    log: &[u8],
-    work: &[u64],
-    n: usize,
-    cap: usize,
-    question: Question,
-    out: &mut [u64],
-) -> Option<usize>
-    requires { Bounds log.now work.now n cap }
-    ensures { ListedBy question cap log.now work.now n out.old out.new result }
+fn answer(past: &Past, question: Question, out: &mut [u64]) -> Option<usize>
+    ensures { ListedBy question past.now.cap past.now.log.now past.now.work.now past.now.count out.old out.new result }
 {
     match question {
-        Question::Before(range, index) => {
-            Some(found_number(before(log, work, n, cap, range, index)))
-        }
-        Question::At(range, index) => { Some(found_number(at(log, work, n, cap, range, index))) }
+        Question::Before(range, index) => { Some(found_number(before(past, range, index))) }
+        Question::At(range, index) => { Some(found_number(at(past, range, index))) }
         Question::FirstAtGeneration(range, generation) => {
-            let first = first_at_generation(log, work, n, cap, range, generation);
+            let first = first_at_generation(past, range, generation);
             Some(found_number(first))
         }
-        Question::Statements => Some(statements(work, n, cap) as usize),
-        Question::IsEmpty => Some(truth(is_empty(work, n, cap))),
-        Question::HoldersOf(id) => holders_of(log, work, n, cap, id, out),
-        Question::Blocks => blocks(log, work, n, cap, out),
+        Question::Statements => Some(statements(past.work, past.count, past.cap) as usize),
+        Question::IsEmpty => Some(truth(is_empty(past.work, past.count, past.cap))),
+        Question::HoldersOf(id) => holders_of(past, id, out),
+        Question::Blocks => blocks(past, out),
     }
 }
 
@@ -90,8 +81,8 @@ impl Judge {
         let judge = suiting.judge;
         if !suiting.holds {
             return Looked {
-                refusal: Refusal::Judge,
-                judge: judge,
+                outcome: Err(Refusal::Judge),
+                judge,
                 value: of_none(question),
             };
         }
@@ -99,21 +90,27 @@ impl Judge {
         let cap = judge.capacity;
         if cap == 0 {
             return Looked {
-                refusal: Refusal::Nothing,
-                judge: judge,
+                outcome: Ok(()),
+                judge,
                 value: of_none(question),
             };
         }
-        let Some(value) = answer(log, work, n, cap, question, out) else {
+        let past = Past {
+            log,
+            work,
+            count: n,
+            cap,
+        };
+        let Some(value) = answer(&past, question, out) else {
             return Looked {
-                refusal: Refusal::Output,
-                judge: judge,
+                outcome: Err(Refusal::Output),
+                judge,
                 value: 0,
             };
         };
         Looked {
-            refusal: Refusal::Nothing,
-            judge: judge,
+            outcome: Ok(()),
+            judge,
             value: value as u64,
         }
     }

@@ -2,7 +2,8 @@
 ghost use Rattle.std.specs.Prelude.{◌≡◌, length};
 ghost use Rattle.judge.specs.Openings.{fresh_of, Opens};
 
-use crate::state::{Judge, Refusal};
+use crate::state::Judge;
+use decision::refusal::Refusal;
 use history::chain::clear;
 use rows::pass;
 use rules::{CHECKS, Opening};
@@ -10,7 +11,7 @@ use rules::{CHECKS, Opening};
 // What an opening gives: its refusal, and the judge.
 #[derive(Clone, Copy)]
 pub struct Opened {
-    pub refusal: Refusal,
+    pub outcome: Result<(), Refusal>,
     pub judge: Judge,
 }
 
@@ -32,10 +33,10 @@ impl Judge {
         ensures { result ≡ fresh_of capacity opening }
     {
         Self {
-            capacity: capacity,
+            capacity,
             count: 0,
             events: 0,
-            opening: opening,
+            opening,
             reports: [pass(); CHECKS],
         }
     }
@@ -48,15 +49,15 @@ impl Judge {
         let asked = Judge::fresh(capacity, opening).suits(log.len(), work.len());
         if !asked.holds | (capacity == 0) {
             return Opened {
-                refusal: Refusal::Opening,
+                outcome: Err(Refusal::Opening),
                 judge: Judge::fresh(0, opening),
             };
         }
         let judge = asked.judge;
         clear(work);
         Opened {
-            refusal: Refusal::Nothing,
-            judge: judge,
+            outcome: Ok(()),
+            judge,
         }
     }
 }

@@ -1,15 +1,16 @@
 // Pushing a record into a judge by value: its reports as rows, the record taken, and the rows as reports again.
 ghost use Rattle.judge.specs.Pushes.{PushedBy};
 
-use crate::state::{Judge, Refusal, refusal_of};
+use crate::state::Judge;
+use decision::refusal::Refusal;
 use events::event_after;
 use intake::take::take;
 use rows::{ROWS, read_rows, write_rows};
 
-// What a push gives: its refusal, and the judge.
+// What a push gives: whether it was refused, and the judge.
 #[derive(Clone, Copy)]
 pub struct Pushed {
-    pub refusal: Refusal,
+    pub outcome: Result<(), Refusal>,
     pub judge: Judge,
 }
 
@@ -25,23 +26,24 @@ impl Judge {
         let reports = self.reports;
         let mut rows = [0u64; ROWS];
         write_rows(&mut rows, 0, reports);
-        let refusal = take(log, work, &mut rows, n, events, cap, opening.tenant, rec);
-        if refusal != 0 {
-            return Pushed {
-                refusal: refusal_of(refusal),
+        match take(log, work, &mut rows, n, events, cap, opening.tenant, rec) {
+            Err(refusal) => Pushed {
+                outcome: Err(refusal),
                 judge: self,
-            };
-        }
-        let next = read_rows(&rows, 0);
-        Pushed {
-            refusal: Refusal::Nothing,
-            judge: Judge {
-                capacity: cap,
-                count: n + 1,
-                events: event_after(events, rec),
-                opening: opening,
-                reports: next,
             },
+            Ok(taken) => {
+                let next = read_rows(&rows, 0);
+                Pushed {
+                    outcome: Ok(()),
+                    judge: Judge {
+                        capacity: cap,
+                        count: n + 1,
+                        events: event_after(events, taken),
+                        opening,
+                        reports: next,
+                    },
+                }
+            }
         }
     }
 }

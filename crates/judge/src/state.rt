@@ -1,26 +1,10 @@
-// The judge, its tests, and the numbers of its refusals.
+// The judge and its tests.
 ghost use Rattle.std.specs.Prelude.{◌≡◌};
-ghost use Rattle.decision.specs.Refusals.{fits_by, suits_by, PushNumber};
-ghost use Rattle.judge.specs.States.{refusal_number};
+ghost use Rattle.decision.specs.Refusals.{fits_by, suits_by};
 
+pub use decision::refusal::Refusal;
 use decision::{CAPACITY, suits};
 use rules::{CHECKS, Opening, Report};
-
-// Why a call was refused, or that it was not.
-#[derive(Clone, Copy)]
-pub enum Refusal {
-    Nothing,
-    Length,
-    Kind,
-    Value,
-    Unused,
-    Judge,
-    Full,
-    Opening,
-    Output,
-    Ticket,
-    Event,
-}
 
 // A judge: its capacity, how many records it has taken, of how many events, the opening's numbers, and the reports in printing order.
 #[derive(Clone, Copy)]
@@ -37,42 +21,6 @@ pub struct Judge {
 pub struct Tested {
     pub holds: bool,
     pub judge: Judge,
-}
-
-// Document 01's and 02's number of a refusal, 0 where there was none.
-pub fn number_of(refusal: Refusal) -> u64
-    ensures { result ≡ refusal_number refusal }
-{
-    match refusal {
-        Refusal::Nothing => 0,
-        Refusal::Length => 1,
-        Refusal::Kind => 2,
-        Refusal::Value => 3,
-        Refusal::Unused => 4,
-        Refusal::Judge => 5,
-        Refusal::Full => 6,
-        Refusal::Opening => 7,
-        Refusal::Output => 8,
-        Refusal::Ticket => 10,
-        Refusal::Event => 11,
-    }
-}
-
-// The refusal of a number that a push has.
-pub(crate) fn refusal_of(number: u64) -> Refusal
-    requires { PushNumber number }
-    ensures { refusal_number result ≡ number }
-{
-    match number {
-        0 => Refusal::Nothing,
-        1 => Refusal::Length,
-        2 => Refusal::Kind,
-        3 => Refusal::Value,
-        4 => Refusal::Unused,
-        5 => Refusal::Judge,
-        6 => Refusal::Full,
-        _ => Refusal::Event,
-    }
 }
 
 impl Judge {

@@ -1,8 +1,8 @@
 // A ticket: a record, with the count of the judge that it was previewed for.
-ghost use Rattle.std.specs.Prelude.{◌≡◌, length};
+ghost use Rattle.std.specs.Prelude.{◌≡◌};
 ghost use Rattle.judge.specs.Tickets.{ticket_of, no_ticket};
 
-use history::log::append;
+use record::Record;
 use record::limits::RECORD_SIZE;
 
 // What a preview gives and a commit takes.
@@ -13,16 +13,10 @@ pub struct Ticket {
 }
 
 // The ticket of a record, for a judge that has taken so many.
-pub(crate) fn ticket_of(count: usize, rec: &[u8]) -> Ticket
-    requires { length rec.now ≡ 368 }
+pub(crate) fn ticket_of(count: usize, rec: &Record) -> Ticket
     ensures { result ≡ ticket_of count rec.now }
 {
-    let mut copy = [0u8; RECORD_SIZE];
-    append(&mut copy, 0, rec);
-    Ticket {
-        count: count,
-        rec: copy,
-    }
+    Ticket { count, rec: *rec }
 }
 
 // A ticket of zeros.

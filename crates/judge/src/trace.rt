@@ -1,11 +1,12 @@
 // A whole trace: opened, and then its records taken up to the first refusal.
 ghost use Rattle.std.specs.Prelude.{◌≡◌, ◌+◌, ◌<◌, ◌≤◌, length, replicate};
 ghost use Rattle.rows.specs.Rows.{rows_size};
-ghost use Rattle.judge.specs.States.{refusal_number};
+ghost use Rattle.decision.specs.Refusals.{outcome_number};
 ghost use Rattle.judge.specs.Pushes.{state_of};
 ghost use Rattle.judge.specs.Traces.{Feeds, judge_by, FedBy, TracedBy};
 
-use crate::state::{Judge, Refusal, refusal_of};
+use crate::state::Judge;
+use decision::refusal::Refusal;
 use events::event_after;
 use intake::keep::keep;
 use intake::preview::preview;
@@ -15,15 +16,15 @@ use rules::Opening;
 // What a whole trace gives: the first refusal, the number of the record that it came at, and the judge.
 #[derive(Clone, Copy)]
 pub struct Traced {
-    pub refusal: Refusal,
+    pub outcome: Result<(), Refusal>,
     pub at: usize,
     pub judge: Judge,
 }
 
-// What a trace's records came to: the number of the first refusal and of its record, how many were taken, and of how many events.
+// What a trace's records came to: the first refusal and the number of its record, how many were taken, and of how many events.
 #[derive(Clone, Copy)]
 struct Fed {
-    refusal: u64,
+    outcome: Result<(), Refusal>,
     at: usize,
     count: usize,
     events: u64,
@@ -50,33 +51,34 @@ fn feed(
     trace: &[u8],
 ) -> Fed
     requires { length rows.old ≡ rows_size }
-    ensures { FedBy (record { tenant = tenant }) cap log.old work.old rows.old trace.now result.refusal result.at result.count result.events log.new work.new rows.new }
+    ensures { FedBy (record { tenant = tenant }) cap log.old work.old rows.old trace.now (outcome_number result.outcome) result.at result.count result.events log.new work.new rows.new }
 {
     let mut at: usize = 0;
     let mut n: usize = 0;
     let mut events: u64 = 0;
     while at < trace.len() {
         let end = record_end(at, trace.len());
-        let rec = &trace[at..end];
-        let refusal = preview(log, work, rows, n, events, cap, tenant, rec);
-        if refusal != 0 {
-            return Fed {
-                refusal: refusal,
-                at: n + 1,
-                count: n,
-                events: events,
-            };
-        }
-        keep(log, work, n, cap, rec);
-        events = event_after(events, rec);
+        let taken = match preview(log, work, rows, n, events, cap, tenant, &trace[at..end]) {
+            Ok(taken) => taken,
+            Err(refusal) => {
+                return Fed {
+                    outcome: Err(refusal),
+                    at: n + 1,
+                    count: n,
+                    events,
+                };
+            }
+        };
+        keep(log, work, n, cap, taken);
+        events = event_after(events, taken);
         n += 1;
         at = end;
     }
     Fed {
-        refusal: 0,
+        outcome: Ok(()),
         at: n,
         count: n,
-        events: events,
+        events,
     }
 }
 
@@ -86,21 +88,20 @@ impl Judge {
         ensures { TracedBy opening log.old work.old trace.now result log.new work.new }
     {
         let o = Judge::open(opening, log, work);
-        let f = o.refusal;
         let judge = o.judge;
-        match f {
-            Refusal::Nothing => judge.fed(log, work, trace),
-            _ => Traced {
-                refusal: f,
+        match o.outcome {
+            Ok(()) => judge.fed(log, work, trace),
+            Err(refusal) => Traced {
+                outcome: Err(refusal),
                 at: 0,
-                judge: judge,
+                judge,
             },
         }
     }
 
     // The judge, which has taken nothing, after a trace's records.
     fn fed(self, log: &mut [u8], work: &mut [u64], trace: &[u8]) -> Traced
-        ensures { Feeds (state_of (judge_by self.opening self.capacity 0 0 (replicate rows_size 0)) log.old work.old) trace.now 0 (refusal_number result.refusal) result.at (state_of result.judge log.new work.new) }
+        ensures { Feeds (state_of (judge_by self.opening self.capacity 0 0 (replicate rows_size 0)) log.old work.old) trace.now 0 (outcome_number result.outcome) result.at (state_of result.judge log.new work.new) }
     {
         let cap = self.capacity;
         let opening = self.opening;
@@ -108,14 +109,14 @@ impl Judge {
         let f = feed(log, work, &mut rows, cap, opening.tenant, trace);
         let reports = read_rows(&rows, 0);
         Traced {
-            refusal: refusal_of(f.refusal),
+            outcome: f.outcome,
             at: f.at,
             judge: Judge {
                 capacity: cap,
                 count: f.count,
                 events: f.events,
-                opening: opening,
-                reports: reports,
+                opening,
+                reports,
             },
         }
     }
