@@ -22,7 +22,8 @@ use Rattle.ids_unique.proofs.Words.{length_holders}
 use Rattle.judge.specs.declared.lookup.Looked.{Looked}
 use Rattle.judge.specs.declared.lookup.Question.TheVariants.{HoldersOf}
 use Rattle.judge.specs.declared.trace.Traced.{Traced}
-use Rattle.judge.specs.States.{State, refusal_number}
+use Rattle.decision.specs.Refusals.{outcome_number}
+use Rattle.judge.specs.States.{State}
 use Rattle.judge.specs.Lookups.{LookedBy}
 use Rattle.demands.specs.Runs.{report_at}
 use Rattle.demands.specs.Demand2.{Demand2}
@@ -103,7 +104,7 @@ ids_report {o} {h} d = ap (λ (rs : List Report). get_or rs ids_place passed) d.
 -- where the ids report passes, an id has one holder at most
 pub demand_one_holder : {o : Opening} {h : History} {t : State} → Demand2 o h t → report_at ids_place t ≡ passed
     → (id : ℕ) (out out' : List ℕ) (r : Looked) → LookedBy (HoldersOf id) t.judge t.log t.work out out' r
-    → OneHolder id h out (refusal_number r.refusal) r.value out'
+    → OneHolder id h out (outcome_number r.outcome) r.value out'
 demand_one_holder {o} {h} d e id out out' r l =
     let a = d.answers (HoldersOf id) out out' r l in
     one_held id h ((ids_passes o h).0 (sym (ids_report d) ∙ e)) out a.value a.list a.refusal
@@ -151,7 +152,7 @@ module _ {h g : History} {t u : State} (w : RunOf h t) (v : RunOf g u) where
 
 -- AT MOST ONE HOLDER: "in a passing trace `holders_of` gives at most one holder for every id"
 pub run_one_holder : {h : History} {t : State} → RunOf h t → report_at ids_place t ≡ passed → (id : ℕ) (out out' : List ℕ) (r : Looked)
-    → LookedBy (HoldersOf id) t.judge t.log t.work out out' r → OneHolder id h out (refusal_number r.refusal) r.value out'
+    → LookedBy (HoldersOf id) t.judge t.log t.work out out' r → OneHolder id h out (outcome_number r.outcome) r.value out'
 run_one_holder w = demand_one_holder (run_demand2 w)
 
 -- ---- whole traces, by their own bytes

@@ -8,10 +8,10 @@ use lib.ListN.{length, take, drop, length-drop}
 use lib.Dec.{eqb}
 use Rattle.record.specs.Records.{decode}
 use Rattle.rules.specs.History.{History}
-use Rattle.decision.specs.Refusals.{refusal_after}
+use Rattle.decision.specs.Refusals.{outcome_number, refusal_after}
 use Rattle.judge.specs.declared.trace.Traced.{Traced}
 use Rattle.rules.specs.declared.Opening.{Opening}
-use Rattle.judge.specs.States.{State, refusal_number, push_refusal, takes}
+use Rattle.judge.specs.States.{State, push_refusal, takes}
 use Rattle.judge.specs.Openings.{Fits}
 use Rattle.intake.specs.Words.{Indexed}
 use Rattle.judge.specs.Pushes.{After, state_of}
@@ -160,7 +160,7 @@ whole_trace o c log work trace r log' work' f p =
     record {
       count = w.after.count ∙ k ∙ z;
       refusal = w.refusal;
-      at = w.place ∙ ap (placed (refusal_number r.refusal)) y ∙ ap (λ (g : ℕ). placed g n) w.refusal;
+      at = w.place ∙ ap (placed (outcome_number r.outcome)) y ∙ ap (λ (g : ℕ). placed g n) w.refusal;
       demand2 = demand2_of _ _ w.after o w.opening;
       demand3 = demand3_of Indexed o _ _ w.after w.opening;
     }

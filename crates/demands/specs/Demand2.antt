@@ -7,13 +7,13 @@ use Rattle.judge.specs.declared.lookup.Question.{Question}
 use Rattle.judge.specs.declared.preview.Previewed.{Previewed}
 use Rattle.rules.specs.declared.Opening.{Opening}
 use Rattle.rules.specs.Checks.{check_count, reports_of}
-use Rattle.judge.specs.States.{State, refusal_number}
+use Rattle.judge.specs.States.{State}
 use Rattle.judge.specs.Answers.{ReportedBy}
 use Rattle.judge.specs.Lookups.{Answered, LookedBy}
 use Rattle.demands.specs.Runs.{report_at}
 use Rattle.judge.specs.Previews.{PreviewedBy}
 use Rattle.rules.specs.declared.Report.{Report}
-use Rattle.decision.specs.Refusals.{refusal_after}
+use Rattle.decision.specs.Refusals.{outcome_number, refusal_after}
 use Rattle.judge.specs.declared.ticket.Ticket.{Ticket}
 use Rattle.judge.specs.Tickets.{ticket_of, no_ticket}
 use Rattle.demands.specs.Calls.{push, after_call}
@@ -30,7 +30,7 @@ pub record Shown (o : Opening) (cap : ℕ) (h : History) (bytes : List ℕ) (ref
 -- would do, by the rules
 pub record Demand2 (o : Opening) (h : History) (t : State) : Type 0 where
   pub reports : t.judge.reports ≡ reports_of o h
-  pub reported : (k : ℕ) (r : Reported) → k < check_count → ReportedBy t.judge (suc k) r → (refusal_number r.refusal ≡ 0) × (r.report ≡ report_at k t)
+  pub reported : (k : ℕ) (r : Reported) → k < check_count → ReportedBy t.judge (suc k) r → (outcome_number r.outcome ≡ 0) × (r.report ≡ report_at k t)
   pub answers : (q : Question) (out out' : List ℕ) (r : Looked) → LookedBy q t.judge t.log t.work out out' r → Answered q h out out' r
   pub previewed : (bytes : List ℕ) (r : Previewed) → PreviewedBy t.judge t.log t.work bytes r
-      → Shown o t.judge.capacity h bytes (refusal_number r.refusal) r.reports r.ticket
+      → Shown o t.judge.capacity h bytes (outcome_number r.outcome) r.reports r.ticket

@@ -2,10 +2,10 @@
 use Rattle.std.specs.Prelude.{◌≡◌, cond, List, [], ◌∷◌, ℕ, zero, suc, ◌+◌, length, take, drop, eqb}
 use Rattle.record.specs.Records.{decode}
 use Rattle.rules.specs.History.{History}
-use Rattle.decision.specs.Refusals.{refusal_after}
+use Rattle.decision.specs.Refusals.{outcome_number, refusal_after}
 use Rattle.judge.specs.declared.trace.Traced.{Traced}
 use Rattle.rules.specs.declared.Opening.{Opening}
-use Rattle.judge.specs.States.{State, refusal_number}
+use Rattle.judge.specs.States.{State}
 use Rattle.intake.specs.Words.{Indexed}
 use Rattle.demands.specs.Runs.{Demand3}
 use Rattle.demands.specs.Demand2.{Demand2}
@@ -49,7 +49,7 @@ records_taken c trace = records_in (sound_pieces c trace) []
 -- without one the last record's; and the demands hold of the records taken
 pub record WholeTrace (o : Opening) (c : ℕ) (trace : List ℕ) (r : Traced) (t : State) : Type 0 where
   pub count : t.judge.count ≡ length (sound_pieces c trace)
-  pub refusal : refusal_number r.refusal ≡ first_refusal c trace
+  pub refusal : outcome_number r.outcome ≡ first_refusal c trace
   pub at : r.at ≡ cond (eqb (first_refusal c trace) 0) (length (sound_pieces c trace)) (length (sound_pieces c trace) + 1)
   pub demand2 : Demand2 o (records_taken c trace) t
   pub demand3 : Demand3 Indexed o (records_taken c trace) t

@@ -1,6 +1,6 @@
 // The judge and its tests.
 ghost use Rattle.std.specs.Prelude.{◌≡◌};
-ghost use Rattle.decision.specs.Refusals.{fits_by, suits_by};
+ghost use Rattle.decision.specs.Refusals.{fits_by, suits_by, outcome_number};
 
 pub use decision::refusal::Refusal;
 use decision::{CAPACITY, suits};
@@ -21,6 +21,16 @@ pub struct Judge {
 pub struct Tested {
     pub holds: bool,
     pub judge: Judge,
+}
+
+// Document 01's and 02's number of what a call came to, 0 where it was not refused.
+pub fn number_of(outcome: Result<(), Refusal>) -> u64
+    ensures { result ≡ outcome_number outcome }
+{
+    match outcome {
+        Ok(()) => 0,
+        Err(refusal) => refusal.number(),
+    }
 }
 
 impl Judge {

@@ -14,7 +14,7 @@ use Rattle.ids_unique.specs.Answers.{too_short}
 use Rattle.judge.specs.declared.lookup.Looked.{Looked}
 use Rattle.judge.specs.declared.lookup.Question.{Question}
 use Rattle.judge.specs.declared.state.Judge.{Judge}
-use Rattle.judge.specs.States.{refusal_number}
+use Rattle.decision.specs.Refusals.{outcome_number}
 use Rattle.judge.specs.Lookups.{value_of, words_of, lends, LookedBy}
 use Rattle.petalchurn.specs.declared.answer.Answer.{Answer}
 use Rattle.state_words.specs.StateWords.{judge_in, is_state}
@@ -47,18 +47,18 @@ module _ (q : Question) (state log work out : List ℕ) where
   }
 
   -- refused by 5 or by 8, the judge's look-up leaves the list
-  list_left : (p : Looked) (j : Judge) {out' : List ℕ} → LookedBy q j log work out out' p → (refusal_number p.refusal ≡ 0 → ⊥)
+  list_left : (p : Looked) (j : Judge) {out' : List ℕ} → LookedBy q j log work out out' p → (outcome_number p.outcome ≡ 0 → ⊥)
       → (b : Bool) → lends j log work ≡ b → out' ≡ out
   list_left p j g z true l = ⊎_elim (λ e. absurd (z e)) (λ s. s.list) (g.lent l)
   list_left p j g z false l = (g.refused l).2
 
   pub looked_done : (p : Looked) {j : Judge} {out' : List ℕ} {n v : ℕ} {r : Answer} → is_state state ≡ true → j ≡ judge_in state
-      → LookedBy q j log work out out' p → n ≡ refusal_number p.refusal → v ≡ p.value → r ≡ answer_of n v
+      → LookedBy q j log work out out' p → n ≡ outcome_number p.outcome → v ≡ p.value → r ≡ answer_of n v
       → LooksWords q state log work out out' r
   looked_done p {j} {out'} {n} {v} {r} t s g e w x =
       let at : (k : Judge) → judge_in state ≡ k → LookedBy q k log work out out' p =
       λ k h. subst (λ (i : Judge). LookedBy q i log work out out' p) (s ∙ h) g in
-      let number : r.refusal ≡ refusal_number p.refusal = ap (λ (m : Answer). m.refusal) x ∙ e in
+      let number : r.refusal ≡ outcome_number p.outcome = ap (λ (m : Answer). m.refusal) x ∙ e in
       record {
         unfit = λ y. never t (none_state state y);
         refused = λ k y l. x ∙ ap (λ (m : ℕ). answer_of m v) (e ∙ ((at k (fit_of state t y)).refused l).0);

@@ -18,14 +18,14 @@ use Rattle.rows.specs.Rows.{rows_size, report_words, rows_of}
 use Rattle.rows.proofs.Rows.{length_rows}
 use Rattle.record.proofs.Lists.{sets_front}
 use Rattle.events.specs.Numbers.{event_in}
-use Rattle.decision.specs.Refusals.{fits_by}
+use Rattle.decision.specs.Refusals.{outcome_number, fits_by}
 use Rattle.intake.specs.Words.{Indexed}
 use Rattle.intake.specs.Takes.{TakesIn}
 use Rattle.judge.specs.declared.answer.Reported.{Reported}
 use Rattle.judge.specs.declared.opening.Opened.{Opened}
 use Rattle.judge.specs.declared.state.Judge.{Judge}
 use Rattle.judge.specs.declared.trace.Traced.{Traced}
-use Rattle.judge.specs.States.{refusal_number, push_refusal}
+use Rattle.judge.specs.States.{push_refusal}
 use Rattle.judge.specs.Openings.{Opens}
 use Rattle.judge.specs.Answers.{report_no, ReportedBy}
 use Rattle.judge.specs.Pushes.{Pushed, state_of}
@@ -45,7 +45,7 @@ module _ (o : Opening) (log work state : List ℕ) where
   open_short n = record { short = λ x. (refl, refl, refl); refused = λ h none. absurd (n h); opened = λ h c x. absurd (n h) }
 
   pub open_done : (p : Opened) {r : ℕ} {work' state' : List ℕ} → length state ≡ state_size → Opens o (length log) work p work'
-      → state' ≡ state_words p.judge → r ≡ refusal_number p.refusal → OpensWords o log work state r work' state'
+      → state' ≡ state_words p.judge → r ≡ outcome_number p.outcome → OpensWords o log work state r work' state'
   open_done p h q s e = record {
     short = λ n. absurd (n h);
     refused = λ g none. let x = q.refused none in (e ∙ x.0, x.2, s ∙ ap state_words x.1);
@@ -137,7 +137,7 @@ module _ (state : List ℕ) (k : ℕ) (out : List ℕ) where
   }
 
   module _ (p : Reported) {j : Judge} {n : ℕ} (t : is_state state ≡ true) (g : j ≡ judge_in state) (q : ReportedBy j k p)
-      (e : n ≡ refusal_number p.refusal) where
+      (e : n ≡ outcome_number p.outcome) where
     -- what is said of the judge that was read is said of the state's
     fits_at : (i : Judge) → judge_in state ≡ i → fits_by j.capacity j.count ≡ fits_by i.capacity i.count
     fits_at i h = ap (λ (x : Judge). fits_by x.capacity x.count) (g ∙ h)
@@ -184,7 +184,7 @@ module _ (state : List ℕ) (k : ℕ) (out : List ℕ) where
 
 -- two stores and the rows from the third word on write a trace's words at the front of a list
 pub trace_written : (out : List ℕ) (t : Traced) {n m : ℕ} → trace_size ≤ length out → length t.judge.reports ≡ check_count → n ≡ t.judge.count
-    → m ≡ cond (eqb (refusal_number t.refusal) 0) 0 t.at
+    → m ≡ cond (eqb (outcome_number t.outcome) 0) 0 t.at
     → sets (set (set out 0 n) 1 m) 2 (rows_of t.judge.reports) ≡ trace_words t ++ drop trace_size out
 unfolding trace_words
 trace_written out t {n} {m} h e a b =
@@ -200,5 +200,5 @@ module _ (o : Opening) (log work trace out : List ℕ) where
   trace_short h = record { short = λ x. (refl, refl, refl, refl); traced = λ x. absurd (omega arith) }
 
   pub trace_done : (t : Traced) {r : ℕ} {log' work' out' : List ℕ} → trace_size ≤ length out → TracedBy o log work trace t log' work'
-      → r ≡ refusal_number t.refusal → out' ≡ trace_words t ++ drop trace_size out → TracesWords o log work trace out r log' work' out'
+      → r ≡ outcome_number t.outcome → out' ≡ trace_words t ++ drop trace_size out → TracesWords o log work trace out r log' work' out'
   trace_done t h q e w = record { short = λ x. absurd (omega arith); traced = λ x. (t, q, e, w) }

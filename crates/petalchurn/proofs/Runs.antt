@@ -15,7 +15,7 @@ use Rattle.rules.specs.Reports.{passed}
 use Rattle.rules.specs.Checks.{check_count, reports_of}
 use Rattle.rows.specs.Rows.{rows_size, report_words, rows_of}
 use Rattle.history.specs.Logs.{hist}
-use Rattle.decision.specs.Refusals.{fits_by, refusal_after}
+use Rattle.decision.specs.Refusals.{outcome_number, fits_by, refusal_after}
 use Rattle.intake.specs.Words.{Indexed}
 use Rattle.decision.proofs.Suiting.{fits_by_lem}
 use Rattle.judge.specs.declared.answer.Reported.{Reported}
@@ -24,7 +24,7 @@ use Rattle.judge.specs.declared.state.Judge.{Judge}
 use Rattle.judge.specs.declared.state.Refusal.TheVariants.{Nothing}
 use Rattle.judge.specs.declared.ticket.Ticket.{Ticket}
 use Rattle.judge.specs.Tickets.{ticket_of}
-use Rattle.judge.specs.States.{State, suits, refusal_number}
+use Rattle.judge.specs.States.{State, suits}
 use Rattle.judge.specs.Openings.{Fits, fresh_of}
 use Rattle.demands.specs.Calls as Judge-calls
 use Rattle.demands.specs.Calls.{Call, call_refusal, taken_of, erased}
@@ -279,7 +279,7 @@ library_trace o c log work trace out r log' work' out' l f p =
     let t = g.0 in
     let w = whole_trace o c log work trace t log' work' f g.1 in
     let n = length (sound_pieces c trace) in
-    let at : cond (eqb (refusal_number t.refusal) 0) 0 t.at ≡ refused_piece c trace =
+    let at : cond (eqb (outcome_number t.outcome) 0) 0 t.at ≡ refused_piece c trace =
     ap (λ (k : ℕ). cond (eqb k 0) 0 t.at) w.refusal
     ∙ ap (λ (k : ℕ). cond (eqb (first_refusal c trace) 0) 0 k) w.at
     ∙ refused_at (eqb (first_refusal c trace) 0) n (n + 1) in
@@ -287,7 +287,7 @@ library_trace o c log work trace out r log' work' out' l f p =
       judge = t.judge;
       refusal = g.2 ∙ w.refusal;
       words = g.3
-          ∙ ap (λ (k : ℕ). (k ∷ cond (eqb (refusal_number t.refusal) 0) 0 t.at ∷ rows_of t.judge.reports) ++ drop trace_size out) w.count
+          ∙ ap (λ (k : ℕ). (k ∷ cond (eqb (outcome_number t.outcome) 0) 0 t.at ∷ rows_of t.judge.reports) ++ drop trace_size out) w.count
           ∙ ap (λ (k : ℕ). (n ∷ k ∷ rows_of t.judge.reports) ++ drop trace_size out) at;
       demand2 = w.demand2;
       demand3 = w.demand3;

@@ -2,11 +2,11 @@
 use Rattle.std.specs.Prelude.{◌≡◌, true, false, cond, List, ◌∷◌, ◌++◌, ℕ, ◌+◌, ◌≤◌, ◌<◌, length, drop, replicate, eqb, None, Some}
 use Rattle.rules.specs.declared.Opening.{Opening}
 use Rattle.rows.specs.Rows.{rows_size, report_words, rows_of}
-use Rattle.decision.specs.Refusals.{fits_by}
+use Rattle.decision.specs.Refusals.{outcome_number, fits_by}
 use Rattle.intake.specs.Words.{Indexed}
 use Rattle.judge.specs.declared.state.Judge.{Judge}
 use Rattle.judge.specs.declared.trace.Traced.{Traced}
-use Rattle.judge.specs.States.{refusal_number, push_refusal}
+use Rattle.judge.specs.States.{push_refusal}
 use Rattle.judge.specs.Openings.{Fits, fresh_of}
 use Rattle.judge.specs.Answers.{report_no}
 use Rattle.judge.specs.Pushes.{Pushed, state_of}
@@ -55,11 +55,11 @@ pub record ReportsWords (state : List ℕ) (k : ℕ) (out : List ℕ) (r : ℕ) 
 
 -- a whole trace's words: the records taken, the refused record's number (0 for none), then the rows of the reports
 unfoldable pub trace_words : Traced → List ℕ
-trace_words t = t.judge.count ∷ cond (eqb (refusal_number t.refusal) 0) 0 t.at ∷ rows_of t.judge.reports
+trace_words t = t.judge.count ∷ cond (eqb (outcome_number t.outcome) 0) 0 t.at ∷ rows_of t.judge.reports
 
 -- a whole trace: 8 where the list has fewer words than its answer, and nothing is written; else what the judge's call gives, as
 -- words at the front of the list
 pub record TracesWords (o : Opening) (log work trace out : List ℕ) (r : ℕ) (log' work' out' : List ℕ) : Type 0 where
   pub short : length out < trace_size → (r ≡ 8) × (log' ≡ log) × (work' ≡ work) × (out' ≡ out)
   pub traced : trace_size ≤ length out
-      → (t : Traced) × TracedBy o log work trace t log' work' × (r ≡ refusal_number t.refusal) × (out' ≡ trace_words t ++ drop trace_size out)
+      → (t : Traced) × TracedBy o log work trace t log' work' × (r ≡ outcome_number t.outcome) × (out' ≡ trace_words t ++ drop trace_size out)

@@ -22,10 +22,9 @@ pub fn petalchurn_open(tenant: u64, log: &[u8], work: &mut [u64], state: &mut [u
     }
     let opening = Opening { tenant: tenant };
     let opened = Judge::open(opening, log, work);
-    let refusal = opened.refusal;
-    let judge = opened.judge;
-    write_state(state, judge);
-    number_of(refusal)
+    let outcome = opened.outcome;
+    write_state(state, opened.judge);
+    number_of(outcome)
 }
 
 // Takes a record on the words of a judge, or says why not: then everything is as it stood. A check's row, where it has a new fault, the
@@ -38,22 +37,15 @@ pub(crate) fn take_into(state: &mut [u64], log: &mut [u8], work: &mut [u64], rec
     let n = state[COUNT_WORD] as usize;
     let events = state[EVENTS_WORD];
     let tenant = state[TENANT_WORD];
-    let refusal = take(
-        log,
-        work,
-        &mut state[HEADER..STATE_WORDS],
-        n,
-        events,
-        cap,
-        tenant,
-        rec,
-    );
-    if refusal != 0 {
-        return refusal;
+    let rows = &mut state[HEADER..STATE_WORDS];
+    match take(log, work, rows, n, events, cap, tenant, rec) {
+        Ok(taken) => {
+            state[COUNT_WORD] = (n + 1) as u64;
+            state[EVENTS_WORD] = event_after(events, taken);
+            0
+        }
+        Err(refusal) => refusal.number(),
     }
-    state[COUNT_WORD] = (n + 1) as u64;
-    state[EVENTS_WORD] = event_after(events, rec);
-    refusal
 }
 
 // Takes a record, or says why not: then everything is as it stood.
@@ -75,8 +67,7 @@ pub fn petalchurn_report(state: &[u64], k: u64, out: &mut [u64]) -> u64
     }
     let judge = read_state(state);
     let reported = judge.report(k as usize);
-    let why = reported.refusal;
-    let refusal = number_of(why);
+    let refusal = number_of(reported.outcome);
     if refusal != 0 {
         return refusal;
     }

@@ -17,8 +17,7 @@ fn looked(state: &[u64], log: &[u8], work: &[u64], question: Question, out: &mut
     }
     let judge = read_state(state);
     let given = judge.look_up(log, work, question, out);
-    let refusal = given.refusal;
-    answer_of(number_of(refusal), given.value)
+    answer_of(number_of(given.outcome), given.value)
 }
 
 // The same for a question that writes no list: it is lent an empty one.

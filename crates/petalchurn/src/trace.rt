@@ -1,6 +1,6 @@
 // A whole trace in one call.
 ghost use Rattle.std.specs.Prelude.{◌≡◌, cond, ◌++◌, ◌≤◌, length, drop, eqb};
-ghost use Rattle.judge.specs.States.{refusal_number};
+ghost use Rattle.decision.specs.Refusals.{outcome_number};
 ghost use Rattle.petalchurn.specs.Calls.{trace_size, trace_words, TracesWords};
 
 use judge::state::{Judge, number_of};
@@ -24,12 +24,11 @@ fn refused_at(refusal: u64, at: usize) -> u64
 // Writes what a trace came to at the front of a list, and gives the refusal's number.
 fn write_trace(out: &mut [u64], traced: Traced) -> u64
     requires { trace_size ≤ length out.old }
-    ensures { (result ≡ refusal_number traced.refusal) × (out.new ≡ trace_words traced ++ drop trace_size out.old) }
+    ensures { (result ≡ outcome_number traced.outcome) × (out.new ≡ trace_words traced ++ drop trace_size out.old) }
 {
     let judge = traced.judge;
     let reports = judge.reports;
-    let why = traced.refusal;
-    let refusal = number_of(why);
+    let refusal = number_of(traced.outcome);
     out[0] = judge.count as u64;
     out[1] = refused_at(refusal, traced.at);
     write_rows(out, 2, reports);

@@ -18,7 +18,7 @@ use Rattle.rules.specs.Reports.{passed, Right, report_of}
 use Rattle.rules.specs.Checks.{check_count, check_at, HasBy, case_at, report_by, reports_of}
 use Rattle.rules.proofs.Reports.{report_of_passed}
 use Rattle.rules.proofs.Checks.{report_at_lem, check_right}
-use Rattle.judge.specs.States.{refusal_number}
+use Rattle.decision.specs.Refusals.{outcome_number}
 use Rattle.judge.specs.Openings.{Fits}
 use Rattle.demands.proofs.Pieces.{whole_trace}
 use Rattle.sheet_text.specs.Sheets.{pass_line, line_of, line, name_at, last_line, line_at, sheet_size}
@@ -90,7 +90,7 @@ printed_sheet input {out} {out'} {r} l p =
     let w = whole_trace opening 96 p.log p.work (read_of input) t p.log' p.work' (fits p.log_size p.work_size) p.judged in
     let rs = t.judge.reports in
     let many = t.judge.count in
-    let number = refusal_number t.refusal in
+    let number = outcome_number t.outcome in
     let reports : rs ≡ reports_of opening (taken input) = w.demand2.reports ∙ ap (reports_of opening) (same_records input) in
     let same : take r out' ≡ sheet_of t = printed_front (sheet_of t) out l p.size p.is in
     let n : count (read_of input) ≡ count input = ap (λ (ps : List (List ℕ)). length ps) (same_pieces input) in

@@ -2,13 +2,13 @@
 use Rattle.std.specs.Prelude.{◌≡◌, List, ℕ, ◌*◌, length}
 use Rattle.rules.specs.declared.Opening.{Opening}
 use Rattle.judge.specs.declared.trace.Traced.{Traced}
-use Rattle.judge.specs.States.{refusal_number}
+use Rattle.decision.specs.Refusals.{outcome_number}
 use Rattle.judge.specs.Traces.{TracedBy}
 use Rattle.sheet_text.specs.Sheets.{sheet_text, printed, printed_length}
 
 -- the sheet of what a whole-trace call gave: its reports, the records taken, and the refusal with its record's number
 unfoldable pub sheet_of : Traced → List ℕ
-sheet_of t = sheet_text t.judge.reports t.judge.count (refusal_number t.refusal) t.at
+sheet_of t = sheet_text t.judge.reports t.judge.count (outcome_number t.outcome) t.at
 
 -- the program's opening: tenant 0
 abbrev pub opening : Opening

@@ -38,7 +38,7 @@ fn sheet_of(traced: Traced, out: &mut [u8]) -> usize
     sheet(
         traced.judge.reports,
         traced.judge.count as u64,
-        number_of(traced.refusal),
+        number_of(traced.outcome),
         traced.at as u64,
         out,
     )
