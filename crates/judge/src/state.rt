@@ -7,7 +7,7 @@ use decision::{CAPACITY, suits};
 use rules::{CHECKS, Opening, Report};
 
 // Why a call was refused, or that it was not.
-#[derive(Clone, Copy)]
+#[derive(Clone, Copy, PartialEq, Eq)]
 pub enum Refusal {
     Nothing,
     Length,
