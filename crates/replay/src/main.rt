@@ -2,41 +2,40 @@
 // out otherwise: `form.bin` through the record form, `traces.bin` through the judge.
 #![tactic(auto)]
 
+use cases::next_case;
+use read::Stop;
 use std::fs::File;
 use std::io;
 use std::rt::Files;
-use tally::Tally;
+use tally::counted;
+use trace::next_trace;
 
 mod ask;
 mod cases;
-mod compare;
 mod preview;
 mod read;
-mod refusal;
 mod tally;
 mod trace;
 
-fn say(rt: &impl Print, name: &str, tally: Tally) -> io::Result<()> {
-    let right = tally.right;
-    let wrong = tally.wrong;
-    println!(rt; "{name}: {right} right, {wrong} wrong")
-}
-
-fn run_form(rt: &(impl Files + Print + Eprint)) -> io::Result<()> {
-    match File::open(rt, "form.bin") {
-        Ok(mut file) => say(rt, "form", cases::all_cases(&mut file)),
-        Err(e) => eprintln!(rt; "form.bin: {e}"),
-    }
-}
-
-fn run_traces(rt: &(impl Files + Print + Eprint)) -> io::Result<()> {
-    match File::open(rt, "traces.bin") {
-        Ok(mut file) => say(rt, "traces", trace::all_traces(&mut file)),
-        Err(e) => eprintln!(rt; "traces.bin: {e}"),
+// Counts the entries of a file.
+fn run<R: Files + Print + Eprint, F: Fn(&mut R::File) -> Result<bool, Stop> + Drop>(
+    rt: &R,
+    name: &str,
+    path: &str,
+    next: F,
+) -> io::Result<()>
+    requires { F.IsAlwaysCallable next }
+{
+    match File::open(rt, path) {
+        Ok(mut file) => {
+            let tally = counted(&mut file, next);
+            println!(rt; "{name}: {tally}")
+        }
+        Err(e) => eprintln!(rt; "{path}: {e}"),
     }
 }
 
 fn main(rt: HostRuntime) -> io::Result<()> {
-    run_form(&rt)?;
-    run_traces(&rt)
+    run(&rt, "form", "form.bin", next_case)?;
+    run(&rt, "traces", "traces.bin", next_trace)
 }

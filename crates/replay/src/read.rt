@@ -1,15 +1,7 @@
-// Bytes of a file, and numbers of one, two and eight of them, the low byte first.
+// Bytes of a file, and the numbers that they are.
 ghost use Rattle.std.specs.Prelude.{◌≡◌, ◌≤◌, length, take};
 
-use record::number::{u64_at, wide64};
 use std::io::Read;
-
-// A number, and whether all its bytes were there.
-#[derive(Clone, Copy)]
-pub struct Number {
-    pub value: u64,
-    pub there: bool,
-}
 
 // Reads until the buffer is full, the file ends or a read fails, and returns how many bytes it put at the start of the
 // buffer.
@@ -17,12 +9,10 @@ pub fn read_full<R: Read>(file: &mut R, buf: &mut [u8]) -> usize
     ensures within { result ≤ length buf.new }
     ensures front { result ≡ length (take result buf.new) }
 {
+    // No `for`: that each turn reads a byte more is what ends it, and no number of turns.
     let mut done = 0usize;
     while done < buf.len() {
-        let n = match file.read(&mut buf[done..]) {
-            Ok(n) => n,
-            Err(_) => 0,
-        };
+        let n = file.read(&mut buf[done..]).unwrap_or(0);
         if n == 0 {
             return done;
         }
@@ -31,34 +21,46 @@ pub fn read_full<R: Read>(file: &mut R, buf: &mut [u8]) -> usize
     done
 }
 
-// The number of two bytes.
-pub fn pair(low: u8, high: u8) -> u64 {
-    (low as u64) + 256 * (high as u64)
+// The start of the buffer, filled from the file: none where the buffer is shorter, or the file ends before.
+pub fn front<'a, R: Read>(file: &mut R, buf: &'a mut [u8], size: usize) -> Option<&'a [u8]> {
+    let part = buf.get_mut(..size)?;
+    if read_full(file, part) < size {
+        return None;
+    }
+    Some(part)
 }
 
-pub fn one<R: Read>(file: &mut R) -> Number {
-    let mut bytes = [0u8; 1];
-    let got = read_full(file, &mut bytes);
-    Number {
-        value: wide64(bytes[0]),
-        there: got == 1,
-    }
+// Why an entry of a file was not read: none begins there, or it is cut short, and then nothing says where the next one begins.
+#[derive(Clone, Copy)]
+pub enum Stop {
+    End,
+    Broken,
 }
 
-pub fn two<R: Read>(file: &mut R) -> Number {
-    let mut bytes = [0u8; 2];
-    let got = read_full(file, &mut bytes);
-    Number {
-        value: pair(bytes[0], bytes[1]),
-        there: got == 2,
+// The bytes that an entry begins with.
+pub fn head<const N: usize, R: Read>(file: &mut R) -> Result<[u8; N], Stop> {
+    let mut head = [0u8; N];
+    let got = read_full(file, &mut head);
+    if got == N {
+        return Ok(head);
     }
+    Err(if got == 0 { Stop::End } else { Stop::Broken })
 }
 
-pub fn eight<R: Read>(file: &mut R) -> Number {
-    let mut bytes = [0u8; 8];
-    let got = read_full(file, &mut bytes);
-    Number {
-        value: u64_at(&bytes, 0),
-        there: got == 8,
-    }
+// So many bytes: none where the file ends before them.
+pub fn bytes<const N: usize, R: Read>(file: &mut R) -> Option<[u8; N]> {
+    head(file).ok()
+}
+
+// The number of one, two or eight bytes, the low one first.
+pub fn one<R: Read>(file: &mut R) -> Option<u8> {
+    bytes(file).map(u8::from_le_bytes)
+}
+
+pub fn two<R: Read>(file: &mut R) -> Option<u16> {
+    bytes(file).map(u16::from_le_bytes)
+}
+
+pub fn eight<R: Read>(file: &mut R) -> Option<u64> {
+    bytes(file).map(u64::from_le_bytes)
 }

@@ -1,60 +1,50 @@
-// What an entry of a file turned out to be, and how many were right and wrong.
+// A file of entries, and how many of them came out right and wrong.
+use crate::read::Stop;
+use std::fmt;
+use std::io::Read;
 
-// After an entry that is broken nothing says where the next one begins.
-#[derive(Clone, Copy)]
-pub enum Outcome {
-    Right,
-    Wrong,
-    Broken,
-    End,
-}
+// No file has more entries.
+const MOST: u64 = 1000000;
 
-#[derive(Clone, Copy)]
+#[derive(Clone, Copy, Default)]
 pub struct Tally {
-    pub right: u64,
-    pub wrong: u64,
+    right: u64,
+    wrong: u64,
 }
 
-// Right or wrong, for an entry that was read whole.
-pub fn outcome_of(right: bool) -> Outcome {
-    if right {
-        Outcome::Right
-    } else {
-        Outcome::Wrong
-    }
-}
-
-// Whether nothing can be read after this one.
-pub fn is_last(came: Outcome) -> bool {
-    match came {
-        Outcome::Right => false,
-        Outcome::Wrong => false,
-        Outcome::Broken => true,
-        Outcome::End => true,
+impl Tally {
+    // One entry more.
+    fn count(&mut self, right: bool) {
+        if right {
+            self.right = self.right.saturating_add(1);
+        } else {
+            self.wrong = self.wrong.saturating_add(1);
+        }
     }
 }
 
-// The tally with one entry more. It stands still at a number that no file reaches.
-pub fn counted(tally: Tally, came: Outcome) -> Tally {
-    if 1000000 <= tally.right {
-        return tally;
+impl fmt::Display for Tally {
+    fn fmt<W: fmt::Write>(&self, f: &mut fmt::Formatter<W>) -> fmt::Result {
+        let right = self.right;
+        let wrong = self.wrong;
+        write!(f, "{right} right, {wrong} wrong")
     }
-    if 1000000 <= tally.wrong {
-        return tally;
+}
+
+// All entries of the file, counted: `next` reads one, and says whether it came out right. One that is cut short counts as wrong: the vectors are damaged then.
+pub fn counted<R: Read, F: Fn(&mut R) -> Result<bool, Stop> + Drop>(file: &mut R, next: F) -> Tally
+    requires { F.IsAlwaysCallable next }
+{
+    let mut tally = Tally::default();
+    for _ in 0..MOST {
+        match next(file) {
+            Ok(right) => tally.count(right),
+            Err(Stop::Broken) => {
+                tally.count(false);
+                break;
+            }
+            Err(Stop::End) => break,
+        }
     }
-    match came {
-        Outcome::Right => Tally {
-            right: tally.right + 1,
-            wrong: tally.wrong,
-        },
-        Outcome::Wrong => Tally {
-            right: tally.right,
-            wrong: tally.wrong + 1,
-        },
-        Outcome::Broken => Tally {
-            right: tally.right,
-            wrong: tally.wrong + 1,
-        },
-        Outcome::End => tally,
-    }
+    tally
 }

@@ -1,9 +1,0 @@
--- `replay::compare::has_reports` is safe and ends: the measure is how many reports are left.
-use Prim.Native.Nat.{◌≤◌, ◌-◌}
-use Rattle.replay.proofs.compare.has_reports.Given as goal
-
-abbrev pub invariant-loop-k : goal.invariant-loop-k
-invariant-loop-k l = l.k ≤ 8
-
-abbrev pub decreases-loop-k : goal.decreases-loop-k
-decreases-loop-k l = 8 - l.k
