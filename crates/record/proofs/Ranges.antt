@@ -1,5 +1,6 @@
 -- Counting up: a test of each number below one, and an array made of a value for each. Assumes nothing.
-use Rattle.std.proofs.Common.{◌≡◌, refl, ◌∙◌, ap, sym, subst, ℕ, zero, suc, ◌+◌, ◌-◌, ◌<◌, ◌≤◌, Bool, true, false, Option, MatchOption, ◌&&◌, List, [], ◌∷◌, ◌++◌, length, get_or, map, arith, add-one}
+use Rattle.std.proofs.Common.{◌≡◌, refl, ◌∙◌, ap, sym, subst, ℕ, zero, suc, ◌+◌, ◌-◌, ◌<◌, ◌≤◌, Bool}
+use Rattle.std.proofs.Common.{true, false, Option, MatchOption, ◌&&◌, List, [], ◌∷◌, ◌++◌, get_or, map, arith, add-one}
 use mathlib.Core.List.{map-id}
 use Rattle.std.proofs.Math.Bool.{and-true}
 use native.Mathlib.Decide.{ℕ_discrete}
@@ -35,7 +36,8 @@ all_range holds test a (suc n) none more =
 
 -- what a range's `all` gives, where the closure is such a test
 pub range_all : {F : Type 0} {g : Mut F (ℕ × Unit {0}) Bool} (test : ℕ → Bool) (a b : ℕ) {s u : Range ℕ} {f : F} (r : Bool)
-    → (xs : List ℕ) × (o : Option ℕ) × (j : F) × YieldsThen nat_range_steps s xs o u × FoldsTo (λ p x q. Called g p (x, tt) true q) f xs j × MatchOption o (r ≡ true) (λ x. (r ≡ false) × ((h : F) × Called g j (x, tt) false h))
+    → (xs : List ℕ) × (o : Option ℕ) × (j : F) × YieldsThen nat_range_steps s xs o u × FoldsTo (λ p x q. Called g p (x, tt) true q) f xs j
+    × MatchOption o (r ≡ true) (λ x. (r ≡ false) × ((h : F) × Called g j (x, tt) false h))
     → s ≡ record { start = a; end = b } → ((x : ℕ) (b : Bool) (q : F) → Called g f (x, tt) b q → (q ≡ f) × (b ≡ test x))
     → (holds : ℕ → Bool) → a ≤ b → holds a ≡ true → ((k : ℕ) → a ≤ k → k < b → holds (k + 1) ≡ (holds k && test k)) → r ≡ holds b
 range_all test a b r ran from each holds l none more =
@@ -43,7 +45,6 @@ range_all test a b r ran from each holds l none more =
     ∙ all_range holds test a (b - a) none (λ k h m. more k h (omega arith))
     ∙ ap holds (omega arith)
 
--- what `array::from_fn` makes of a closure that gives h of each place
 made_at : {F B : Type 0} {g : Mut F (ℕ × Unit {0}) B} (h : ℕ → B) (f : F) (made : List B)
     → ((k : ℕ) (y : B) (q : F) → Called g f (k, tt) y q → (q ≡ f) × (y ≡ h k))
     → (i n : ℕ) → IsFromFnResultFrom g f made i n → (k : ℕ) (d : B) → i ≤ k → k < i + n → get_or made k d ≡ h k
@@ -55,6 +56,7 @@ made_at {g = g} h f made each i (suc n) e k d l m =
       | no q ↦ made_at h f made each (i + 1) n (subst (λ p. IsFromFnResultFrom g p made (i + 1) n) t.0 e.4) k d (omega arith) (omega arith)
     ]
 
+-- what `array::from_fn` makes of a closure that gives h of each place
 pub made_by : {F B : Type 0} {g : Mut F (ℕ × Unit {0}) B} (h : ℕ → B) (f : F) (made : List B) (n : ℕ) → IsFromFnResult g f made n
     → ((k : ℕ) (y : B) (q : F) → Called g f (k, tt) y q → (q ≡ f) × (y ≡ h k)) → made ≡ map h (range_with_len 0 n)
 made_by h f [] n e each = ap (λ (m : ℕ). map h (range_with_len 0 m)) e.long

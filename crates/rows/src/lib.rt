@@ -41,6 +41,7 @@ fn verdict_of(word: u64) -> Verdict
 {
     match word {
         0 => Verdict::Pass,
+        // A byte, as is required: `as` loses nothing.
         kind => Verdict::Faulted(kind as u8),
     }
 }

@@ -55,6 +55,12 @@ decimal_large (suc k) l =
     large_in k (suc k) l
     ∙ ap (λ (d : List ℕ). d ++ ((48 + suc k % 10) ∷ [])) (ap (λ (j : ℕ). decimal_in j m) e ∙ enough (k - m) m)
 
+pub small_length : (n : ℕ) → n < 10 → length (decimal n) ≡ 1
+small_length n l = ap length (decimal_small n l)
+
+pub large_length : (n : ℕ) → 10 ≤ n → length (decimal n) ≡ length (decimal (n / 10)) + 1
+large_length n l = ap length (decimal_large n l) ∙ length-append (decimal (n / 10)) ((48 + n % 10) ∷ [])
+
 -- induction by tenths
 module _ {P : ℕ → Type 0} (small : (n : ℕ) → n < 10 → P n) (large : (n : ℕ) → 10 ≤ n → P (n / 10) → P n) where
   tenths_step : (n : ℕ) (b : Bool) → ltb n 10 ≡ b → (10 ≤ n → P (n / 10)) → P n

@@ -3,7 +3,6 @@ pub mod Decimals
 pub mod Examples
 pub mod Lines
 pub mod Names
-pub mod Numbers
 pub mod Printed
 pub mod ReadBack
 pub mod Cuts

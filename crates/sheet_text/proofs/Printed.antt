@@ -9,14 +9,16 @@ use lib.Seq.{take_at}
 use lib.Dec.{leb}
 use borrow.Author.Tests.{le-leb}
 use Rattle.sheet_text.specs.Sheets.{lines_size, sheet_size, printed, printed_length}
+use Rattle.sheet_text.specs.declared.text.Text.{Text}
 use Rattle.sheet_text.specs.Appends.{Appended}
 use Rattle.sheet_text.proofs.Appends.{appended_front}
 
-pub long_sheet : {out out' bytes : List ℕ} {r : ℕ} → sheet_size ≤ length out → Appended (lines_size + 82) out out' 0 bytes r
-    → (r ≡ printed_length bytes out) × (out' ≡ printed bytes out)
-long_sheet {out} {out'} {bytes} {r} l w =
+pub long_sheet : {text text' : Text} {bytes : List ℕ} → text.end ≡ 0 → sheet_size ≤ length text.out.now → Appended (lines_size + 82) text text' bytes
+    → (text'.end ≡ printed_length bytes text.out.now) × (text'.out.now ≡ printed bytes text.out.now)
+long_sheet {text} {text'} {bytes} z l w =
+    let out = text.out.now in
     let e = le-leb sheet_size (length out) l in
-    let f = appended_front (omega arith) w in
+    let f = appended_front z (omega arith) w in
     (f.0 ∙ sym (ap (λ (b : Bool). cond b (length bytes) 0) e), f.1 ∙ sym (ap (λ (b : Bool). cond b (bytes ++ drop (length bytes) out) out) e))
 
 -- the length lies within a buffer that has kept its own

@@ -1,10 +1,13 @@
--- Text written into a list of bytes from a place on.
+-- Text appended to a text in its buffer.
 use Rattle.std.specs.Prelude.{◌≡◌, List, ℕ, ◌+◌, ◌≤◌, length}
 use Rattle.std.proofs.lemmas.List.Edits.{sets}
+use Rattle.sheet_text.specs.declared.text.Text.{Text}
 
--- out' is out with the text, of at most so many bytes, stored byte by byte from the place on, and no other byte changed; the
--- text ends at r
-pub record Appended (most : ℕ) (out out' : List ℕ) (at : ℕ) (bytes : List ℕ) (r : ℕ) : Type 0 where
+-- text' is the text with bytes, of at most so many, after it: stored byte by byte from its end on in the same buffer, of which no other
+-- byte changed
+pub record Appended (most : ℕ) (text text' : Text) (bytes : List ℕ) : Type 0 where
+  pub same : text'.out.ghost_name ≡ text.out.ghost_name
+  pub size : length text'.out.now ≡ length text.out.now
   pub short : length bytes ≤ most
-  pub end : r ≡ at + length bytes
-  pub is : out' ≡ sets out at bytes
+  pub end : text'.end ≡ text.end + length bytes
+  pub is : text'.out.now ≡ sets text.out.now text.end bytes

@@ -1,14 +1,14 @@
 // The printed sheet of a trace: its text, written to the front of a buffer.
 #![tactic(auto)]
 
-mod append;
 mod line;
 mod name;
+mod text;
 
 ghost use Rattle.std.specs.Prelude.{◌≡◌};
 ghost use Rattle.sheet_text.specs.Sheets.{sheet_text, printed, printed_length};
 
-use crate::line::{append_last, append_lines};
+use crate::text::Text;
 use rules::{CHECKS, Report};
 
 // The bytes that hold every sheet.
@@ -29,6 +29,8 @@ pub fn sheet(
     if out.len() < SHEET_SIZE {
         return 0;
     }
-    let end = append_lines(out, reports);
-    append_last(out, end, records, refusal, at)
+    let mut text = Text { out, end: 0 };
+    text.push_lines(reports);
+    text.push_last(records, refusal, at);
+    text.end
 }

@@ -1,111 +1,93 @@
-// The lines of the sheet, each written into a buffer from a place on. The room that each asks for is that of numbers of 20
-// digits.
+// The lines of the sheet. The room that each asks for is that of numbers of 20 digits.
 ghost use Rattle.std.specs.Prelude.{◌+◌, ◌≤◌, ◌<◌, length};
 ghost use Rattle.rules.specs.Checks.{check_count};
 ghost use Rattle.sheet_text.specs.Sheets.{name_at, evidence_text, pass_line, fault_line, line, line_size, lines, lines_size, refused_text, last_line};
 ghost use Rattle.sheet_text.specs.Appends.{Appended};
 
-use crate::append::{append_spaced, append_text};
-use crate::name::append_name;
+use crate::text::Text;
 use rules::{CHECKS, Evidence, Report, Verdict};
 
-fn append_evidence(out: &mut [u8], at: usize, e: Evidence) -> usize
-    requires { at + 105 ≤ length out.old }
-    ensures { Appended 105 out.old out.new at (evidence_text e) result }
-{
-    let end = append_spaced(out, at, e.e0);
-    let end = append_spaced(out, end, e.e1);
-    let end = append_spaced(out, end, e.e2);
-    let end = append_spaced(out, end, e.e3);
-    append_spaced(out, end, e.e4)
-}
-
-fn append_pass(out: &mut [u8], at: usize, check: usize) -> usize
-    requires { (at + line_size ≤ length out.old) × (check < check_count) }
-    ensures { Appended line_size out.old out.new at (pass_line (name_at check)) result }
-{
-    let end = append_name(out, at, check);
-    append_text(out, end, b" pass\n")
-}
-
-fn append_fault(
-    out: &mut [u8],
-    at: usize,
-    check: usize,
-    kind: u64,
-    position: u64,
-    e: Evidence,
-) -> usize
-    requires { (at + line_size ≤ length out.old) × (check < check_count) }
-    ensures { Appended line_size out.old out.new at (fault_line (name_at check) kind position e) result }
-{
-    let end = append_name(out, at, check);
-    let end = append_text(out, end, b" fault");
-    let end = append_spaced(out, end, kind);
-    let end = append_text(out, end, b" at");
-    let end = append_spaced(out, end, position);
-    let end = append_text(out, end, b":");
-    let end = append_evidence(out, end, e);
-    append_text(out, end, b"\n")
-}
-
-// The line of the check at a place of the table: its name, and what it reports.
-fn append_report(out: &mut [u8], at: usize, check: usize, report: Report) -> usize
-    requires { (at + line_size ≤ length out.old) × (check < check_count) }
-    ensures { Appended line_size out.old out.new at (line (name_at check) report) result }
-{
-    match report.verdict {
-        Verdict::Pass => append_pass(out, at, check),
-        Verdict::Faulted(kind) => append_fault(
-            out,
-            at,
-            check,
-            u64::from(kind),
-            report.at,
-            report.evidence,
-        ),
+impl Text<'_> {
+    // The five numbers, each after a space.
+    fn push_evidence(&mut self, e: Evidence)
+        requires { self.old.end + 105 ≤ length self.old.out.now }
+        ensures { Appended 105 self.old self.new (evidence_text e) }
+    {
+        self.push_number(e.e0);
+        self.push_number(e.e1);
+        self.push_number(e.e2);
+        self.push_number(e.e3);
+        self.push_number(e.e4);
     }
-}
 
-// The lines of the checks, in printing order, from the front on.
-pub(crate) fn append_lines(out: &mut [u8], reports: [Report; CHECKS]) -> usize
-    requires { lines_size ≤ length out.old }
-    ensures { Appended lines_size out.old out.new 0 (lines reports) result }
-{
-    let mut end = 0;
-    for (k, report) in reports.iter().enumerate() {
-        end = append_report(out, end, k, *report);
+    // The line of a check without a fault.
+    fn push_pass(&mut self, check: usize)
+        requires { (self.old.end + line_size ≤ length self.old.out.now) × (check < check_count) }
+        ensures { Appended line_size self.old self.new (pass_line (name_at check)) }
+    {
+        self.push_name(check);
+        self.push(b" pass\n");
     }
-    end
-}
 
-// What the last line says of a refusal: nothing where there was none.
-fn append_refused(out: &mut [u8], at: usize, refusal: u64, position: u64) -> usize
-    requires { at + 53 ≤ length out.old }
-    ensures { Appended 53 out.old out.new at (refused_text refusal position) result }
-{
-    if refusal == 0 {
-        return at;
+    // The line of a check's first fault.
+    fn push_fault(&mut self, check: usize, kind: u64, position: u64, e: Evidence)
+        requires { (self.old.end + line_size ≤ length self.old.out.now) × (check < check_count) }
+        ensures { Appended line_size self.old self.new (fault_line (name_at check) kind position e) }
+    {
+        self.push_name(check);
+        self.push(b" fault");
+        self.push_number(kind);
+        self.push(b" at");
+        self.push_number(position);
+        self.push(b":");
+        self.push_evidence(e);
+        self.push(b"\n");
     }
-    let end = append_text(out, at, b" refused");
-    let end = append_spaced(out, end, refusal);
-    let end = append_text(out, end, b" at");
-    append_spaced(out, end, position)
-}
 
-// The last line: the records taken, and the refusal.
-pub(crate) fn append_last(
-    out: &mut [u8],
-    at: usize,
-    records: u64,
-    refusal: u64,
-    position: u64,
-) -> usize
-    requires { at + 82 ≤ length out.old }
-    ensures { Appended 82 out.old out.new at (last_line records refusal position) result }
-{
-    let end = append_text(out, at, b"records");
-    let end = append_spaced(out, end, records);
-    let end = append_refused(out, end, refusal, position);
-    append_text(out, end, b"\n")
+    // The line of the check at a place of the table: its name, and what it reports.
+    fn push_report(&mut self, check: usize, report: Report)
+        requires { (self.old.end + line_size ≤ length self.old.out.now) × (check < check_count) }
+        ensures { Appended line_size self.old self.new (line (name_at check) report) }
+    {
+        match report.verdict {
+            Verdict::Pass => self.push_pass(check),
+            Verdict::Faulted(kind) => {
+                self.push_fault(check, u64::from(kind), report.at, report.evidence)
+            }
+        }
+    }
+
+    // The lines of the checks, in printing order.
+    pub(crate) fn push_lines(&mut self, reports: [Report; CHECKS])
+        requires { self.old.end + lines_size ≤ length self.old.out.now }
+        ensures { Appended lines_size self.old self.new (lines reports) }
+    {
+        for (k, report) in reports.iter().enumerate() {
+            self.push_report(k, *report);
+        }
+    }
+
+    // What the last line says of a refusal: nothing where there was none.
+    fn push_refused(&mut self, refusal: u64, position: u64)
+        requires { self.old.end + 53 ≤ length self.old.out.now }
+        ensures { Appended 53 self.old self.new (refused_text refusal position) }
+    {
+        if refusal != 0 {
+            self.push(b" refused");
+            self.push_number(refusal);
+            self.push(b" at");
+            self.push_number(position);
+        }
+    }
+
+    // The last line: the records taken, and the refusal.
+    pub(crate) fn push_last(&mut self, records: u64, refusal: u64, position: u64)
+        requires { self.old.end + 82 ≤ length self.old.out.now }
+        ensures { Appended 82 self.old self.new (last_line records refusal position) }
+    {
+        self.push(b"records");
+        self.push_number(records);
+        self.push_refused(refusal, position);
+        self.push(b"\n");
+    }
 }

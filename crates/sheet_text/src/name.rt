@@ -4,7 +4,7 @@ ghost use Rattle.rules.specs.Checks.{check_count};
 ghost use Rattle.sheet_text.specs.Sheets.{name_size, name_at};
 ghost use Rattle.sheet_text.specs.Appends.{Appended};
 
-use crate::append::append_text;
+use crate::text::Text;
 use rules::CHECKS;
 
 const NAMES: [&[u8]; CHECKS] = [
@@ -26,10 +26,12 @@ fn name(check: usize) -> &'static [u8]
     NAMES[check]
 }
 
-// The same, written into a buffer.
-pub(crate) fn append_name(out: &mut [u8], at: usize, check: usize) -> usize
-    requires { (at + name_size ≤ length out.old) × (check < check_count) }
-    ensures { Appended name_size out.old out.new at (name_at check) result }
-{
-    append_text(out, at, name(check))
+impl Text<'_> {
+    // The name of the check at a place of the table.
+    pub(crate) fn push_name(&mut self, check: usize)
+        requires { (self.old.end + name_size ≤ length self.old.out.now) × (check < check_count) }
+        ensures { Appended name_size self.old self.new (name_at check) }
+    {
+        self.push(name(check));
+    }
 }

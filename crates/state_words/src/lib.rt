@@ -31,7 +31,7 @@ pub fn is_state(state: &[u64]) -> bool
     state.len() == STATE_WORDS && kinds_fit(state, HEADER)
 }
 
-// The judge that words stand for.
+// The judge that words stand for. An index and a word have no `From` between them, here and below: `as` is proved to lose nothing.
 #[tactic(auto, unfolding(crate::specs::StateWords::judge_in))]
 pub fn read_state(state: &[u64]) -> Judge
     requires { IsState state.now }

@@ -77,10 +77,9 @@ fn enter_places(
     if !unused_clear(tally) {
         return Err(Refusal::Unused);
     }
-    let entry = Entry {
-        places,
-        taken: count as u64,
-    };
+    // An index has no `From` into a word: `as` is proved to lose nothing.
+    let taken = count as u64;
+    let entry = Entry { places, taken };
     if !entry.has_room(tally) {
         return Err(Refusal::Full);
     }

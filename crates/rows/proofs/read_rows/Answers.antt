@@ -8,4 +8,5 @@ use Rattle.rows.proofs.read_rows.Goals as goal
 pub returns : goal.returns
 returns c =
     let a = c.args in
-    made_by (λ k. report_in a.words.now (a.at + 7 * k)) _ c.from_fn.result 8 c.from_fn.ensures.items (λ k y q m. search rules) ∙ reports_range a.words.now a.at
+    made_by (λ k. report_in a.words.now (a.at + 7 * k)) _ c.from_fn.result 8 c.from_fn.ensures.items (λ k y q m. search rules)
+    ∙ reports_range a.words.now a.at

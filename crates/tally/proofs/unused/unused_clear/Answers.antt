@@ -18,4 +18,5 @@ unfolding unused_clear
 returns c =
     let bytes = c.args.tally.now in
     range_all (λ k. clear_from width bytes (place_count * k + used_places k) (place_count * k + place_count)) 0 9 c.all.result c.all.ensures.ran (cc)
-    (λ k b q called. search (rules, tests)) (λ n. all_to (place_count * n) (used_or_zero bytes)) (omega arith) (all_none (used_or_zero bytes)) (λ k l m. record_next bytes k)
+    (λ k b q called. search (rules, tests)) (λ n. all_to (place_count * n) (used_or_zero bytes)) (omega arith)
+    (all_none (used_or_zero bytes)) (λ k l m. record_next bytes k)
