@@ -1,5 +1,6 @@
 // Previewing a record, and committing it by its ticket.
-ghost use Rattle.std.specs.Prelude.{◌≤◌, length};
+ghost use Rattle.std.specs.Prelude.{◌≡◌, ◌≤◌, IfOk, length};
+ghost use Rattle.decision.specs.Refusals.{outcome_number};
 ghost use Rattle.rows.specs.Rows.{rows_size};
 ghost use Rattle.state_words.specs.StateWords.{IsState};
 ghost use Rattle.petalchurn.specs.Previews.{ShowsWords, PreviewsWords, CommitsWords};
@@ -7,45 +8,45 @@ ghost use Rattle.petalchurn.specs.Previews.{ShowsWords, PreviewsWords, CommitsWo
 use crate::calls::take_into;
 use decision::suits;
 use history::chain::clear;
+use decision::refusal::Refusal;
 use intake::preview::preview;
+use record::Record;
 use rows::ROWS;
 use state_words::{CAPACITY_WORD, COUNT_WORD, EVENTS_WORD, TENANT_WORD, copy_rows, is_state};
 use ticket_bytes::{COUNT_SIZE, TICKET_SIZE, clear_ticket, is_current, write_ticket};
 
 // Writes the reports that a state's judge would have with the record, or the present ones where it is refused, passes under 5.
-fn show<'a>(state: &[u64], log: &'a [u8], work: &[u64], rec: &'a [u8], reports: &mut [u64]) -> u64
+fn show<'a>(
+    state: &[u64],
+    log: &[u8],
+    work: &[u64],
+    bytes: &'a [u8],
+    reports: &mut [u64],
+) -> Result<&'a Record, Refusal>
     requires { IsState state.now × (rows_size ≤ length reports.old) }
-    ensures { ShowsWords state.now log.now work.now rec.now reports.old result reports.new }
+    ensures shows { ShowsWords state.now log.now work.now bytes.now reports.old (outcome_number result) reports.new }
+    ensures whole { IfOk result (λ rec. rec.now ≡ bytes.now) }
 {
     copy_rows(state, reports);
     let cap = state[CAPACITY_WORD] as usize;
     let n = state[COUNT_WORD] as usize;
     let events = state[EVENTS_WORD];
     let tenant = state[TENANT_WORD];
-    let refusal = preview(
-        log,
-        work,
-        &mut reports[0..ROWS],
-        n,
-        events,
-        cap,
-        tenant,
-        rec,
-    );
-    if refusal == 5 {
+    let rows = &mut reports[0..ROWS];
+    let shown = preview(log, work, rows, n, events, cap, tenant, bytes);
+    if let Err(Refusal::Judge) = shown {
         clear(&mut reports[0..ROWS]);
-        return 5;
     }
-    refusal
+    shown
 }
 
 // Shows what a push of a record would do, and gives a ticket to commit it with: state, log and work area are lent for reading only. Both
 // lists are written also where the record is refused, so their room is tested first.
-pub fn petalchurn_preview<'a>(
+pub fn petalchurn_preview(
     state: &[u64],
-    log: &'a [u8],
+    log: &[u8],
     work: &[u64],
-    rec: &'a [u8],
+    rec: &[u8],
     reports: &mut [u64],
     ticket: &mut [u8],
 ) -> u64
@@ -59,13 +60,16 @@ pub fn petalchurn_preview<'a>(
         clear_ticket(ticket);
         return 5;
     }
-    let refusal = show(state, log, work, rec, reports);
-    if refusal != 0 {
-        clear_ticket(ticket);
-        return refusal;
+    match show(state, log, work, rec, reports) {
+        Ok(taken) => {
+            write_ticket(ticket, state[COUNT_WORD], taken);
+            0
+        }
+        Err(refusal) => {
+            clear_ticket(ticket);
+            refusal.number()
+        }
     }
-    write_ticket(ticket, state[COUNT_WORD], rec);
-    0
 }
 
 // Pushes a ticket's record, unless its count is not the judge's. Nothing rests on where the ticket came from: all is tested anew.
