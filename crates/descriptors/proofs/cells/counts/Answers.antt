@@ -1,14 +1,12 @@
--- The word of the latest record without its mark, which no clamp cuts where the column is right; none before the first.
+-- The word of the latest record without its mark; none before the first.
 use native.Mathlib.Omega.{arith}
 use Rattle.descriptors.proofs.Noting.{counts_none, counts_some}
 use Rattle.descriptors.proofs.cells.counts.Goals as goal
 
-pub returns-then-count-eq0 : goal.returns-then-count-eq0
-returns-then-count-eq0 c = (omega arith, λ h e k. counts_none h _ e c.if-count-eq0.true)
+pub returns-then-past-eq0 : goal.returns-then-past-eq0
+returns-then-past-eq0 c = (omega arith, λ h e k. counts_none h _ e c.if-past-eq0.true)
 
 pub returns : goal.returns
-returns c = let a = c.args in (
-  omega arith,
-  λ h e k. counts_some a.cap a.work.now h a.count e c.if-count-eq0.false (omega arith)
-      (omega arith) k c.link.ensures.1,
-)
+returns c =
+    let p = c.args.past.now in
+    (omega arith, λ h e k. rw c.word.ensures (counts_some h p.count e c.if-past-eq0.false p.within p.small k))

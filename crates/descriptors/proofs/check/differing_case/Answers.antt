@@ -5,7 +5,7 @@ use Prim.Native.Nat.{◌≤◌, ◌<◌}
 use native.Mathlib.Omega.{arith}
 use Rattle.record.specs.Records.{decode}
 use Rattle.rules.specs.Descriptors.{standing}
-use Rattle.history.specs.Logs.{hist}
+use Rattle.history.specs.Pasts.{taken}
 use Rattle.descriptors.proofs.Judged.{differs_ahead, differs_behind}
 use Rattle.descriptors.proofs.check.differing_case.Goals as goal
 
@@ -14,20 +14,16 @@ returns-then-same_held c = λ k. rw (sym c.same_held.ensures.answer ∙ c.if-sam
 
 pub returns-then-d : goal.returns-then-d
 returns-then-d c =
-    let args = c.args in
-    let value = decode args.value.now in
-    let stated = decode args.stated.now in
-    let vs = standing (hist args.past.now.log.now args.past.now.count) in
+    let value = decode c.args.value.now in
+    let stated = decode c.args.stated.now in
     let other = sym c.same_held.ensures.answer ∙ c.if-same_held.false in
     let lower : value.d < stated.d = omega (arith, c.d.ensures, c.d-2.ensures, c.if-d.true) in
-    λ k. differs_ahead value stated args.index vs other lower c.a.ensures c.d-then-d.ensures (c.ahead_case.ensures k)
+    λ k. differs_ahead value stated c.args.index (standing (taken c.args.past.now)) other lower c.a.ensures c.d-then-d.ensures (c.ahead_case.ensures k)
 
 pub returns : goal.returns
 returns c =
-    let args = c.args in
-    let value = decode args.value.now in
-    let stated = decode args.stated.now in
-    let vs = standing (hist args.past.now.log.now args.past.now.count) in
+    let value = decode c.args.value.now in
+    let stated = decode c.args.stated.now in
     let other = sym c.same_held.ensures.answer ∙ c.if-same_held.false in
     let not_lower : stated.d ≤ value.d = omega (arith, c.d.ensures, c.d-2.ensures, c.if-d.false) in
-    λ k. differs_behind value stated args.index vs other not_lower c.a-2.ensures (ap Some c.new.ensures)
+    λ k. differs_behind value stated c.args.index (standing (taken c.args.past.now)) other not_lower c.a-2.ensures (ap Some c.new.ensures)

@@ -1,12 +1,10 @@
--- Where the range has no first value of the generation it has no greatest; else the walk looks.
-use native.Mathlib.Omega.{arith}
-use Rattle.history.specs.Logs.{hist}
-use Rattle.descriptors.proofs.Judged.{no_last}
+-- Where the range has no first value of the generation it has no greatest.
+use mathlib.Core.Path.{sym}
+use Rattle.history.specs.Pasts.{taken}
+use Rattle.descriptors.proofs.Judged.{none_greatest}
 use Rattle.descriptors.proofs.check.last_of.Goals as goal
 
-pub returns-then-first_of-eq0 : goal.returns-then-first_of-eq0
-returns-then-first_of-eq0 c = let a = c.args in
-    (omega arith, λ k. no_last a.past.now.log.now c.first_of.result a.range a.generation (hist a.past.now.log.now a.past.now.count) c.if-first_of-eq0.true (c.first_of.ensures.1 k))
-
-pub returns : goal.returns
-returns c = c.greatest.ensures
+pub returns-in_err-first_of : goal.returns-in_err-first_of
+returns-in_err-first_of c = λ k.
+    let a = c.args in
+    rw c.from_residual.ensures (sym (none_greatest a.range a.generation (taken a.past.now) (c.in_err-first_of.ensures.first k)))

@@ -1,23 +1,24 @@
 -- By the law of a new value: the earliest statement that becomes faulty by it, with its case.
-use Prim.Native.Nat.{◌-◌}
-use native.Mathlib.Omega.{arith}
 use Rattle.record.specs.Records.{decode}
 use Rattle.rules.specs.Descriptors.{standing}
-use Rattle.history.proofs.Logs.{record_length}
-use Rattle.history.specs.Logs.{hist}
+use Rattle.history.specs.Pasts.{taken}
 use Rattle.descriptors.proofs.Faulty.{next_is, last_is, put_clear, put_faulty}
 use Rattle.descriptors.proofs.check.new_put_case.Goals as goal
 
-pub returns-then-n-eq0 : goal.returns-then-n-eq0
-returns-then-n-eq0 c = let a = c.args in λ k role free clear. put_clear a.past.now.log.now c.first_faulty-n.result (decode a.rec.now)
-    (hist a.past.now.log.now a.past.now.count) a.index role free clear (c.first_faulty-n.ensures.1 k
-    (next_is (decode a.rec.now) (hist a.past.now.log.now a.past.now.count) a.index (standing (hist a.past.now.log.now a.past.now.count)) c.a.ensures (c.lowest-next.ensures.1 k))
-    (last_is (decode a.rec.now) (hist a.past.now.log.now a.past.now.count) a.index (standing (hist a.past.now.log.now a.past.now.count)) c.a-2.ensures c.d.ensures
-    (c.last_of-last.ensures.1 k))) c.if-n-eq0.true
+pub returns-in_err-faulty : goal.returns-in_err-faulty
+returns-in_err-faulty c = λ k role free clear.
+    let a = c.args in
+    let x = decode a.rec.now in
+    let h = taken a.past.now in
+    let next = next_is x h a.index (standing h) c.a.ensures (c.lowest.ensures.lowest k) in
+    let last = last_is x h a.index (standing h) c.a-2.ensures c.d.ensures (c.last_of.ensures k) in
+    rw c.from_residual.ensures (put_clear x h a.index role free clear (c.in_err-faulty.ensures k next last))
 
 pub returns : goal.returns
-returns c = let a = c.args in λ k role free clear. put_faulty a.past.now.log.now c.first_faulty-n.result (decode a.rec.now)
-    (hist a.past.now.log.now a.past.now.count) a.index role free clear (c.first_faulty-n.ensures.1 k
-    (next_is (decode a.rec.now) (hist a.past.now.log.now a.past.now.count) a.index (standing (hist a.past.now.log.now a.past.now.count)) c.a.ensures (c.lowest-next.ensures.1 k))
-    (last_is (decode a.rec.now) (hist a.past.now.log.now a.past.now.count) a.index (standing (hist a.past.now.log.now a.past.now.count)) c.a-2.ensures c.d.ensures
-    (c.last_of-last.ensures.1 k))) c.if-n-eq0.false c.record.ensures (c.new_case.ensures k)
+returns c = λ k role free clear.
+    let a = c.args in
+    let x = decode a.rec.now in
+    let h = taken a.past.now in
+    let next = next_is x h a.index (standing h) c.a.ensures (c.lowest.ensures.lowest k) in
+    let last = last_is x h a.index (standing h) c.a-2.ensures c.d.ensures (c.last_of.ensures k) in
+    put_faulty x h a.index role free clear c.in_ok-faulty.faulty (c.in_ok-faulty.ensures k next last) (c.new_case.ensures k)

@@ -5,10 +5,10 @@ use Rattle.descriptors.proofs.role.is_reached.Goals as goal
 
 pub returns-in_default : goal.returns-in_default
 unfolding reached
-returns-in_default c = let a = c.args in λ k. rw (sym c.node.ensures ∙ c.in_default.is)
+returns-in_default c = λ k. rw (sym c.node.ensures ∙ c.in_default.is)
 
 pub returns : goal.returns
 unfolding reached
-returns c = let a = c.args in λ k.
+returns c = λ k.
     rw (sym c.node.ensures ∙ c.in-Some.is)
     (c.at_least.ensures ∙ rw (c.c.ensures, c.applied_of.ensures k, c.a.ensures))
