@@ -107,15 +107,14 @@ pub top_below : (x : TraceRecord) (h : History) (i : ℕ) {range : ℕ} {o : Opt
     → holds (λ v. leb i v.index) o ≡ any_of (not_below (entry_at i x h)) (standing h)
 top_below x h i a e = rw (e, a) (top_reaches (entry_at i x h) (standing h))
 
-pub told_states : (x : TraceRecord) (h : History) (i : ℕ) {t : Told} → role_of x h ≡ states i
-    → t ≡ States → Telling x h t
-unfolding new_value first_value is_rising
-told_states x h i role e = rw e (record { puts = rw role; states = rw role; stands = rw role; first = rw role; rises = rw role })
+module _ (x : TraceRecord) (h : History) where
+  pub told_states : (i : ℕ) → role_of x h ≡ states i → Telling x h States
+  unfolding new_value first_value is_rising
+  told_states i role = record { puts = rw role; states = rw role; stands = rw role; first = rw role; rises = rw role }
 
-pub told_neither : (x : TraceRecord) (h : History) {t : Told} → role_of x h ≡ neither
-    → t ≡ Neither → Telling x h t
-unfolding new_value first_value is_rising
-told_neither x h role e = rw e (record { puts = rw role; states = rw role; stands = rw role; first = rw role; rises = rw role })
+  pub told_neither : role_of x h ≡ neither → Telling x h Neither
+  unfolding new_value first_value is_rising
+  told_neither role = record { puts = rw role; states = rw role; stands = rw role; first = rw role; rises = rw role }
 
 -- ---- the buckets of a record, by what it is told to be
 

@@ -5,20 +5,18 @@ use mathlib.Core.Bool.{Bool, true, false, cond, ◌&&◌, ◌||◌}
 use mathlib.Core.List.{List, [], ◌∷◌}
 use Rattle.std.specs.Prelude.{Option, None, Some, option_map}
 use mathlib.Core.Logic.{⊎_elim}
-use Prim.Native.Nat.{ℕ, zero, suc, ◌+◌, ◌-◌, ◌≤◌, ◌<◌}
-use native.Mathlib.Omega.{arith}
-use native.Mathlib.Numerals.{add-one}
+use Prim.Native.Nat.{ℕ, suc, ◌-◌}
 use lib.Dec.{eqb, ltb, leb}
 use borrow.Author.Tests.{eqb-true}
 use Rattle.record.specs.Named.{Node}
 use Rattle.record.specs.Records.{TraceRecord, decode}
 use Rattle.record.proofs.Booleans.{decide, never, and_left, and_right}
 use Rattle.rules.specs.History.{History, is_kind, is_by, by_node, any_of, latest_of, earliest_of, greatest_of, lowest_of}
-use Rattle.rules.specs.Descriptors.{Entry, held_by, tells_applied, applied, tells_put, same_place, standing, first_at_generation_in, first_at_generation}
+use Rattle.rules.specs.Descriptors.{Entry, tells_applied, applied, tells_put, same_place, standing, first_at_generation_in, first_at_generation}
 use Rattle.history.specs.declared.past.Past.{Past}
 use Rattle.history.specs.declared.walk.Chain.{Chain}
 use Rattle.history.specs.declared.walk.Taken.{Taken}
-use Rattle.history.specs.Pasts.{taken, Indexed, IsTaken, IsFound, Begins, Goes}
+use Rattle.history.specs.Pasts.{taken, Indexed, IsTaken, Begins, Goes}
 use Rattle.history.specs.Places.{standing_heads, standing_links}
 use Rattle.history.specs.Logs.{record_at, hist}
 use Rattle.history.proofs.Chains.{In, Stands}

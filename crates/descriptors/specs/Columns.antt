@@ -1,7 +1,7 @@
 -- What the columns of `Descriptors` hold: chains of the records that tell the applied indexes, put standing values, state
 -- values, and put the first value of a generation; and a word for each record: the counts after it, and a mark. What a new record
 -- changes in them.
-use Rattle.std.specs.Prelude.{◌≡◌, Bool, true, false, cond, not, ◌&&◌, ◌||◌, List, ◌∷◌, ℕ, zero, suc, ◌+◌, ◌*◌, ◌/◌, ◌≤◌, eqb, leb, length, get_or, Option, None, Some, option_map}
+use Rattle.std.specs.Prelude.{◌≡◌, Bool, true, false, cond, not, ◌&&◌, ◌||◌, List, ◌∷◌, ℕ, ◌+◌, ◌*◌, ◌/◌, eqb, leb, Option, None, Some, option_map}
 use Rattle.std.specs.Bool.{then_some}
 use Rattle.record.specs.Named.{Node}
 use Rattle.record.specs.Records.{TraceRecord, decode}
@@ -155,9 +155,3 @@ counts_next old puts states = cond states (old + 2) (cond puts (old / 2 * 2 + 1)
 -- how many columns the crate has: they are the first, up to that of the counts
 abbrev pub own_columns : ℕ
 own_columns = 9
-
--- no word outside them changes; and the columns are right with the record where they were without it
-pub record DescriptorsNoted (work work' : List ℕ) (count cap : ℕ) (x : TraceRecord) (t : Told) : Type 0 where
-  pub len : length work' ≡ length work
-  pub others : (j : ℕ) → own_columns * cap ≤ j → get_or work' j 0 ≡ get_or work j 0
-  pub indexed : (h : History) → length h ≡ count → Telling x h t → DescriptorsIndexed cap h work → DescriptorsIndexed cap (x ∷ h) work'

@@ -22,8 +22,10 @@ pub fn is_rising(past: &Past, old: &Taken) -> bool
 }
 
 // The counts after the records taken: the word of the latest without its mark.
+#[tactic(auto, using(crate::proofs::Noting::counts_none, crate::proofs::Noting::counts_some))]
 pub fn counts(past: &Past) -> u64
-    ensures { (result < 16384) × ((h : History) → length h ≡ past.now.count → DescriptorsIndexed past.now.cap h past.now.work.now → result ≡ counts_of h) }
+    ensures below { result < 16384 }
+    ensures counts { (h : History) → length h ≡ past.now.count → DescriptorsIndexed past.now.cap h past.now.work.now → result ≡ counts_of h }
 {
     if past.count == 0 {
         return 0;
@@ -32,6 +34,7 @@ pub fn counts(past: &Past) -> u64
 }
 
 // How many statements there are.
+#[tactic(auto, using(crate::proofs::Noting::counts_statements))]
 pub fn statements(past: &Past) -> u64
     ensures { (h : History) → length h ≡ past.now.count → DescriptorsIndexed past.now.cap h past.now.work.now → result ≡ statements h }
 {
@@ -39,6 +42,7 @@ pub fn statements(past: &Past) -> u64
 }
 
 // Whether no value has been put.
+#[tactic(auto, using(crate::proofs::Noting::counts_empty))]
 pub fn is_empty(past: &Past) -> bool
     ensures { (h : History) → length h ≡ past.now.count → DescriptorsIndexed past.now.cap h past.now.work.now → result ≡ is_empty h }
 {

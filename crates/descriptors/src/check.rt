@@ -28,8 +28,10 @@ fn ahead_case(past: &Past, range: u64, index: u64, generation: u64) -> Option<Fa
 }
 
 // The case of a statement, given the record of the value that it is judged by.
+#[tactic(auto, using(crate::proofs::Judged::differs_ahead, crate::proofs::Judged::differs_behind))]
 fn differing_case(past: &Past, value: &Record, stated: &Record, index: u64) -> Option<Fault>
-    ensures { Indexed DescriptorsIndexed past.now → result ≡ differs_case (decode stated.now).a index (held_by (decode value.now)) (held_by (decode stated.now)) (standing (taken past.now)) }
+    ensures { let s = decode stated.now in
+        Indexed DescriptorsIndexed past.now → result ≡ differs_case s.a index (held_by (decode value.now)) (held_by s) (standing (taken past.now)) }
 {
     if same_held(value, stated) {
         return None;
@@ -41,8 +43,10 @@ fn differing_case(past: &Past, value: &Record, stated: &Record, index: u64) -> O
 }
 
 // The case of a new statement at an index.
+#[tactic(auto, using(crate::proofs::Judged::state_none, crate::proofs::Judged::state_some))]
 fn statement_case(past: &Past, rec: &Record, index: u64) -> Option<Fault>
-    ensures { Indexed DescriptorsIndexed past.now → result ≡ statement_fault (standing (taken past.now)) (entry_at index (decode rec.now) (taken past.now)) }
+    ensures { let h = taken past.now in
+        Indexed DescriptorsIndexed past.now → result ≡ statement_fault (standing h) (entry_at index (decode rec.now) h) }
 {
     let value = value_at(past, a(rec), index)?;
     differing_case(past, value.record, rec, index)
@@ -66,58 +70,71 @@ struct New<'a> {
 }
 
 // Whether the value in force at a statement's index has a lower generation.
-fn is_ahead(past: &Past, s: &Record, index: u64) -> bool
-    ensures { Indexed DescriptorsIndexed past.now → result ≡ holds (λ v. ltb v.held.generation (decode s.now).d) (at_in (decode s.now).a index (standing (taken past.now))) }
+#[tactic(auto, using(crate::proofs::Judged::in_force), unfolding(rules::specs::Descriptors::held_by))]
+fn is_ahead(past: &Past, stated: &Record, index: u64) -> bool
+    ensures { let x = decode stated.now in
+        Indexed DescriptorsIndexed past.now → result ≡ holds (λ v. ltb v.held.generation x.d) (at_in x.a index (standing (taken past.now))) }
 {
-    value_at(past, a(s), index).is_some_and(|value| d(value.record) < d(s))
+    value_at(past, a(stated), index).is_some_and(|value| d(value.record) < d(stated))
 }
 
-// Whether a statement s below a new value becomes faulty by it.
-fn falls_behind(past: &Past, new: &New, s: &Record, index: u64) -> bool
-    ensures { Indexed DescriptorsIndexed past.now → result ≡ falls_by (put new.now.last) (decode new.now.record.now).d (decode s.now) index (standing (taken past.now)) }
+// Whether a statement below a new value becomes faulty by it.
+fn falls_behind(past: &Past, new: &New, stated: &Record, index: u64) -> bool
+    ensures { let x = decode new.now.record.now in
+        Indexed DescriptorsIndexed past.now → result ≡ falls_by (put new.now.last) x.d (decode stated.now) index (standing (taken past.now)) }
 {
-    d(s) == d(new.record)
+    d(stated) == d(new.record)
         && !new.last.is_some_and(|value| index < index_of(&value))
-        && is_ahead(past, s, index)
+        && is_ahead(past, stated, index)
 }
 
 // Whether the range took a statement's generation above it: a first value of that generation is looked for before the walk.
-fn is_taken_above(past: &Past, s: &Record, index: u64) -> bool
-    ensures { Indexed DescriptorsIndexed past.now → result ≡ is_some (lowest_above (decode s.now).a index (Some (decode s.now).d) (standing (taken past.now))) }
+#[tactic(auto, using(crate::proofs::Judged::none_found, crate::proofs::Judged::none_above))]
+fn is_taken_above(past: &Past, stated: &Record, index: u64) -> bool
+    ensures { let x = decode stated.now in
+        Indexed DescriptorsIndexed past.now → result ≡ is_some (lowest_above x.a index (Some x.d) (standing (taken past.now))) }
 {
-    first_of(past, a(s), d(s)).is_some() && lowest(past, a(s), index, Some(d(s))).is_some()
+    first_of(past, a(stated), d(stated)).is_some()
+        && lowest(past, a(stated), index, Some(d(stated))).is_some()
 }
 
-// Whether a statement s not below a new value becomes faulty by it.
-fn goes_against(past: &Past, new: &New, s: &Record, index: u64) -> bool
-    ensures { Indexed DescriptorsIndexed past.now → result ≡ against_by (put new.now.next) (decode new.now.record.now) (decode s.now) index (standing (taken past.now)) }
+// Whether a statement not below a new value becomes faulty by it.
+fn goes_against(past: &Past, new: &New, stated: &Record, index: u64) -> bool
+    ensures { let x = decode new.now.record.now in
+        Indexed DescriptorsIndexed past.now → result ≡ against_by (put new.now.next) x (decode stated.now) index (standing (taken past.now)) }
 {
     !new.next.is_some_and(|value| index_of(&value) <= index)
-        && !same_held(new.record, s)
-        && (d(s) <= d(new.record) || is_taken_above(past, s, index))
+        && !same_held(new.record, stated)
+        && (d(stated) <= d(new.record) || is_taken_above(past, stated, index))
 }
 
-// Whether the statement of the record s becomes faulty by a new value.
-fn becomes_faulty(past: &Past, new: &New, s: &Record) -> bool
-    ensures { Indexed DescriptorsIndexed past.now → result ≡ becomes_faulty (put new.now.next) (put new.now.last) (decode new.now.record.now) new.now.index (decode s.now) (standing (taken past.now)) }
+// Whether the statement of a record becomes faulty by a new value.
+fn becomes_faulty(past: &Past, new: &New, stated: &Record) -> bool
+    ensures { let n = new.now in
+        let vs = standing (taken past.now) in
+        Indexed DescriptorsIndexed past.now → result ≡ becomes_faulty (put n.next) (put n.last) (decode n.record.now) n.index (decode stated.now) vs }
 {
-    if a(s) != a(new.record) {
+    if a(stated) != a(new.record) {
         return false;
     }
-    let index = stated_index(s);
+    let index = stated_index(stated);
     if index < new.index {
-        falls_behind(past, new, s, index)
+        falls_behind(past, new, stated, index)
     } else {
-        goes_against(past, new, s, index)
+        goes_against(past, new, stated, index)
     }
 }
 
 // The earliest statement that becomes faulty by a new value.
 fn first_faulty<'a>(past: &Past<'a>, new: &New) -> Option<Taken<'a>>
-    ensures { Indexed DescriptorsIndexed past.now → put new.now.next ≡ next_in (entry_at new.now.index (decode new.now.record.now) (taken past.now)) (standing (taken past.now)) → put new.now.last ≡ last_in (entry_at new.now.index (decode new.now.record.now) (taken past.now)) (standing (taken past.now)) → statement result ≡ earliest_of (new_faulty (entry_at new.now.index (decode new.now.record.now) (taken past.now)) (standing (taken past.now))) (stated (taken past.now)) }
+    ensures { let vs = standing (taken past.now) in
+        let v = entry_at new.now.index (decode new.now.record.now) (taken past.now) in
+        Indexed DescriptorsIndexed past.now → put new.now.next ≡ next_in v vs → put new.now.last ≡ last_in v vs
+        → statement result ≡ earliest_of (new_faulty v vs) (stated (taken past.now)) }
 {
     let mut earliest: Option<Taken> = None;
-    for old in past.chain(STATED_HEADS, STATED_LINKS, bucket_by(past.cap, a(new.record))) {
+    let bucket = bucket_by(past.cap, a(new.record));
+    for old in past.chain(STATED_HEADS, STATED_LINKS, bucket) {
         if becomes_faulty(past, new, old.record) {
             earliest = Some(old);
         }
@@ -125,18 +142,20 @@ fn first_faulty<'a>(past: &Past<'a>, new: &New) -> Option<Taken<'a>>
     earliest
 }
 
-// The case of the statement of the record s that became faulty by a new value.
-fn new_case(past: &Past, new: &New, s: &Record) -> Option<Fault>
-    ensures { Indexed DescriptorsIndexed past.now → result ≡ new_case new.now.index (decode new.now.record.now) (decode s.now) (standing (taken past.now)) }
+// The case of the statement of a record that became faulty by a new value.
+fn new_case(past: &Past, new: &New, stated: &Record) -> Option<Fault>
+    ensures { let n = new.now in
+        Indexed DescriptorsIndexed past.now → result ≡ new_case n.index (decode n.record.now) (decode stated.now) (standing (taken past.now)) }
 {
-    let index = stated_index(s);
+    let index = stated_index(stated);
     if index < new.index {
-        return Some(Fault::new(2, &[a(s), index, new.index]));
+        return Some(Fault::new(2, &[a(stated), index, new.index]));
     }
-    differing_case(past, new.record, s, index)
+    differing_case(past, new.record, stated, index)
 }
 
 // The greatest value of a range and generation: a first one is looked for before the walk.
+#[tactic(auto, using(crate::proofs::Judged::none_greatest))]
 fn last_of<'a>(past: &Past<'a>, range: u64, generation: u64) -> Option<Taken<'a>>
     ensures { Indexed DescriptorsIndexed past.now → put result ≡ greatest_up_to range None (Some generation) (standing (taken past.now)) }
 {
@@ -145,8 +164,12 @@ fn last_of<'a>(past: &Past<'a>, range: u64, generation: u64) -> Option<Taken<'a>
 }
 
 // The case of a put at an index where no value stood.
+#[tactic(auto, using(crate::proofs::Faulty::next_is, crate::proofs::Faulty::last_is, crate::proofs::Faulty::put_clear, crate::proofs::Faulty::put_faulty))]
 fn new_put_case(past: &Past, rec: &Record, index: u64) -> Option<Fault>
-    ensures { Indexed DescriptorsIndexed past.now → role_of (decode rec.now) (taken past.now) ≡ puts index → any_of (same_place (entry_at index (decode rec.now) (taken past.now))) (standing (taken past.now)) ≡ false → agreement (taken past.now) ≡ None → result ≡ agreement (decode rec.now ∷ taken past.now) }
+    ensures { let x = decode rec.now in
+        let h = taken past.now in
+        Indexed DescriptorsIndexed past.now → role_of x h ≡ puts index → any_of (same_place (entry_at index x h)) (standing h) ≡ false
+        → agreement h ≡ None → result ≡ agreement (x ∷ h) }
 {
     let new = New {
         record: rec,
@@ -159,8 +182,11 @@ fn new_put_case(past: &Past, rec: &Record, index: u64) -> Option<Fault>
 }
 
 // The case of a put at an index.
+#[tactic(auto, using(crate::proofs::Judged::place_is, crate::proofs::Judged::place_free))]
 fn put_case(past: &Past, rec: &Record, index: u64) -> Option<Fault>
-    ensures { Indexed DescriptorsIndexed past.now → role_of (decode rec.now) (taken past.now) ≡ puts index → agreement (taken past.now) ≡ None → result ≡ agreement (decode rec.now ∷ taken past.now) }
+    ensures { let x = decode rec.now in
+        let h = taken past.now in
+        Indexed DescriptorsIndexed past.now → role_of x h ≡ puts index → agreement h ≡ None → result ≡ agreement (x ∷ h) }
 {
     let Some(value) = standing_at(past, a(rec), index) else {
         return new_put_case(past, rec, index);
@@ -172,6 +198,7 @@ fn put_case(past: &Past, rec: &Record, index: u64) -> Option<Fault>
 }
 
 // The case of a new record, where there was none before it.
+#[tactic(auto, using(rules::proofs::Agreement::agreement_states, rules::proofs::Agreement::agreement_neither))]
 pub fn agreement(past: &Past, rec: &Record) -> Option<Fault>
     ensures { Indexed DescriptorsIndexed past.now → agreement (taken past.now) ≡ None → result ≡ agreement (decode rec.now ∷ taken past.now) }
 {

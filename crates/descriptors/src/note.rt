@@ -7,7 +7,7 @@ ghost use Rattle.rules.specs.Descriptors.{role_of, puts};
 ghost use Rattle.history.specs.Logs.{hist};
 ghost use Rattle.history.specs.Bounds.{Bounds};
 ghost use Rattle.history.specs.Pasts.{taken, Indexed};
-ghost use Rattle.descriptors.specs.Columns.{DescriptorsIndexed, applied_at, EnteredIf, AllEntered, added, puts_value, states_value, adds_first, adds_rising, Telling, counts_next, own_columns, DescriptorsNoted};
+ghost use Rattle.descriptors.specs.Columns.{DescriptorsIndexed, applied_at, EnteredIf, AllEntered, added, puts_value, states_value, adds_first, adds_rising, Telling, counts_next, own_columns};
 
 use crate::cells::{MARK, counts};
 use crate::role::{Role, applies, role_of};
@@ -89,7 +89,9 @@ fn applied_bucket(cap: usize, rec: &Record) -> Option<usize>
 
 // A put at an index: whether it stands, is the first of its generation, and is above the greatest of its range.
 fn told_put(past: &Past, rec: &Record, index: u64) -> Told
-    ensures { Indexed DescriptorsIndexed past.now → role_of (decode rec.now) (taken past.now) ≡ puts index → Telling (decode rec.now) (taken past.now) result }
+    ensures { let x = decode rec.now in
+        let h = taken past.now in
+        Indexed DescriptorsIndexed past.now → role_of x h ≡ puts index → Telling x h result }
 {
     let range = a(rec);
     if standing_at(past, range, index).is_some() {
@@ -102,6 +104,7 @@ fn told_put(past: &Past, rec: &Record, index: u64) -> Told
 }
 
 // What a new record is to be entered for.
+#[tactic(auto, using(crate::proofs::Noting::told_states, crate::proofs::Noting::told_neither))]
 fn told_of(past: &Past, rec: &Record) -> Told
     ensures { Indexed DescriptorsIndexed past.now → Telling (decode rec.now) (taken past.now) result }
 {
@@ -142,10 +145,28 @@ fn enter_all(work: &mut [u64], count: usize, cap: usize, rec: &Record, told: Tol
     let standing = told.stands().then_some(by_range);
     let stated = told.states().then_some(by_range);
     let generation = told.is_first().then_some(by_generation);
-    enter_if(work, APPLIED_HEADS * cap, APPLIED_LINKS * cap, count, applied);
-    enter_if(work, STANDING_HEADS * cap, STANDING_LINKS * cap, count, standing);
+    enter_if(
+        work,
+        APPLIED_HEADS * cap,
+        APPLIED_LINKS * cap,
+        count,
+        applied,
+    );
+    enter_if(
+        work,
+        STANDING_HEADS * cap,
+        STANDING_LINKS * cap,
+        count,
+        standing,
+    );
     enter_if(work, STATED_HEADS * cap, STATED_LINKS * cap, count, stated);
-    enter_if(work, GENERATION_HEADS * cap, GENERATION_LINKS * cap, count, generation);
+    enter_if(
+        work,
+        GENERATION_HEADS * cap,
+        GENERATION_LINKS * cap,
+        count,
+        generation,
+    );
 }
 
 // Notes a new record: whatever the log and the work area hold, no word outside the crate's own columns changes, and where the
@@ -156,7 +177,12 @@ pub fn note(log: &[u8], work: &mut [u64], count: usize, cap: usize, rec: &Record
     ensures others { (j : ℕ) → own_columns * cap ≤ j → get_or work.new j 0 ≡ get_or work.old j 0 }
     ensures indexed { DescriptorsIndexed cap (hist log.now count) work.old → DescriptorsIndexed cap (decode rec.now ∷ hist log.now count) work.new }
 {
-    let past = Past { log, work, count, cap };
+    let past = Past {
+        log,
+        work,
+        count,
+        cap,
+    };
     let told = told_of(&past, rec);
     let after = counts_next(counts(&past), told);
     enter_all(work, count, cap, rec, told);

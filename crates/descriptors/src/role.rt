@@ -36,7 +36,8 @@ pub fn applies(k: u8) -> bool
 
 // Whether a record tells the applied index of a node and range.
 fn is_applied(rec: &Record, id: u32, range: u64) -> bool
-    ensures { result ≡ is_by id (decode rec.now) && (is_kind 1 (decode rec.now) || is_kind 3 (decode rec.now) || is_kind 4 (decode rec.now)) && eqb (decode rec.now).a range }
+    ensures { let x = decode rec.now in
+        result ≡ is_by id x && (is_kind 1 x || is_kind 3 x || is_kind 4 x) && eqb x.a range }
 {
     is_by(node(rec), id) & applies(kind(rec)) & (a(rec) == range)
 }
@@ -59,6 +60,7 @@ fn at_least(applied: Option<u64>, index: u64) -> bool
 }
 
 // Whether a record is marked and a known applied index is at least its own.
+#[tactic(auto, unfolding(rules::specs::Descriptors::reached))]
 fn is_reached(past: &Past, rec: &Record) -> bool
     ensures { Indexed DescriptorsIndexed past.now → result ≡ reached (decode rec.now) (taken past.now) (decode rec.now).node }
 {
@@ -78,6 +80,7 @@ fn created_role(by: RangeCause, floor: u64) -> Role
 }
 
 // The role of a record over those of the log.
+#[tactic(auto, unfolding(rules::specs::Descriptors::role_of))]
 pub fn role_of(past: &Past, rec: &Record) -> Role
     ensures { Indexed DescriptorsIndexed past.now → role_is result ≡ role_of (decode rec.now) (taken past.now) }
 {

@@ -26,8 +26,7 @@ pub fn index_of(value: &Taken) -> u64
 
 // The standing values of a range, with those of the other ranges of its bucket.
 fn standing<'a>(past: &Past<'a>, range: u64) -> Chain<'a>
-    ensures begins { Begins past.now standing_heads standing_links (bucket_by past.now.cap range) result }
-    ensures within { bucket_by past.now.cap range < past.now.cap }
+    ensures { Begins past.now standing_heads standing_links (bucket_by past.now.cap range) result }
 {
     past.chain(STANDING_HEADS, STANDING_LINKS, bucket_by(past.cap, range))
 }
@@ -35,7 +34,8 @@ fn standing<'a>(past: &Past<'a>, range: u64) -> Chain<'a>
 // Whether every earlier value of the range than that of a record is known to be below the index.
 fn is_rest_below(past: &Past, old: &Taken, range: u64, index: u64) -> bool
     requires { IsTaken past.now old.now }
-    ensures { result ≡ leb 16384 (get_or past.now.work.now (counts * past.now.cap + (old.now.number - 1)) 0) && eqb (put_entry old.now).range range && leb (put_entry old.now).index index }
+    ensures { let v = put_entry old.now in
+        result ≡ leb 16384 (get_or past.now.work.now (counts * past.now.cap + (old.now.number - 1)) 0) && eqb v.range range && leb v.index index }
 {
     is_rising(past, old) & (a(old.record) == range) & (index_of(old) <= index)
 }
@@ -59,9 +59,14 @@ fn is_up_to(value: &Taken, range: u64, index: Option<u64>, generation: Option<u6
 }
 
 // The better of two values: the one so far, where its index keeps its place against the older one's, and else the older.
-fn better<'a, F: Fn(u64, u64) -> bool>(best: Option<Taken<'a>>, old: Taken<'a>, keeps: F) -> Option<Taken<'a>>
+fn better<'a, F: Fn(u64, u64) -> bool>(
+    best: Option<Taken<'a>>,
+    old: Taken<'a>,
+    keeps: F,
+) -> Option<Taken<'a>>
     requires { F.IsAlwaysCallable keeps }
-    ensures better { (test : ℕ → ℕ → Bool) → ((x y : ℕ) (b : Bool) → F.post keeps x y b → b ≡ test x y) → put result ≡ weigh_of (λ w v. test w.index v.index) (put best.entry) (Some (put_entry old.entry)) }
+    ensures better { (test : ℕ → ℕ → Bool) → ((x y : ℕ) (b : Bool) → F.post keeps x y b → b ≡ test x y)
+        → put result ≡ weigh_of (λ w v. test w.index v.index) (put best.entry) (Some (put_entry old.entry)) }
     ensures found { (p : Past) → IsFound p best.entry → IsTaken p old.entry → IsFound p result }
 {
     match best {
@@ -71,8 +76,13 @@ fn better<'a, F: Fn(u64, u64) -> bool>(best: Option<Taken<'a>>, old: Taken<'a>, 
 }
 
 // The value of a range at the greatest index, up to one and of a generation where these are asked for. Earlier values than a
-// marked one that passes are below it: the walk stops.
-pub fn greatest<'a>(past: &Past<'a>, range: u64, index: Option<u64>, generation: Option<u64>) -> Option<Taken<'a>>
+// marked one that passes are below it: the walk stops, as no `max_by_key` would.
+pub fn greatest<'a>(
+    past: &Past<'a>,
+    range: u64,
+    index: Option<u64>,
+    generation: Option<u64>,
+) -> Option<Taken<'a>>
     ensures found { IsFound past.now result }
     ensures greatest { Indexed DescriptorsIndexed past.now → put result ≡ greatest_up_to range index generation (standing (taken past.now)) }
 {
@@ -92,14 +102,17 @@ pub fn greatest<'a>(past: &Past<'a>, range: u64, index: Option<u64>, generation:
 fn is_above(value: &Taken, range: u64, index: u64, generation: Option<u64>) -> bool
     ensures { result ≡ above range index generation (put_entry value.now) }
 {
-    (a(value.record) == range)
-        & (index < index_of(value))
-        & is_of_generation(value, generation)
+    (a(value.record) == range) & (index < index_of(value)) & is_of_generation(value, generation)
 }
 
 // The value of a range at the lowest index above one, of a generation where that is asked for. The walk stops where nothing
 // earlier is above.
-pub fn lowest<'a>(past: &Past<'a>, range: u64, index: u64, generation: Option<u64>) -> Option<Taken<'a>>
+pub fn lowest<'a>(
+    past: &Past<'a>,
+    range: u64,
+    index: u64,
+    generation: Option<u64>,
+) -> Option<Taken<'a>>
     ensures found { IsFound past.now result }
     ensures lowest { Indexed DescriptorsIndexed past.now → put result ≡ lowest_above range index generation (standing (taken past.now)) }
 {
@@ -120,7 +133,8 @@ fn is_at(value: &Taken, range: u64, index: u64) -> bool
     (range == a(value.record)) & (index == index_of(value))
 }
 
-// The value that stands at an index of a range. The walk stops where everything earlier is below.
+// The value that stands at an index of a range. The walk stops where everything earlier is below, with nothing found: so it is
+// no `find`.
 pub fn standing_at<'a>(past: &Past<'a>, range: u64, index: u64) -> Option<Taken<'a>>
     ensures found { IsFound past.now result }
     ensures standing { Indexed DescriptorsIndexed past.now → put result ≡ latest_of (at_place range index) (standing (taken past.now)) }
@@ -154,6 +168,7 @@ pub fn first_of<'a>(past: &Past<'a>, range: u64, generation: u64) -> Option<Take
 }
 
 // The value in force at an index of a range, and the one before it: that at the index before.
+#[tactic(auto, using(crate::proofs::Found::at_is))]
 pub fn value_at<'a>(past: &Past<'a>, range: u64, index: u64) -> Option<Taken<'a>>
     ensures found { IsFound past.now result }
     ensures value { Indexed DescriptorsIndexed past.now → put result ≡ at range index (taken past.now) }
@@ -161,6 +176,7 @@ pub fn value_at<'a>(past: &Past<'a>, range: u64, index: u64) -> Option<Taken<'a>
     greatest(past, range, Some(index), None)
 }
 
+#[tactic(auto, using(rules::proofs::LookUps::before_at, rules::proofs::LookUps::before_zero))]
 pub fn value_before<'a>(past: &Past<'a>, range: u64, index: u64) -> Option<Taken<'a>>
     ensures found { IsFound past.now result }
     ensures value { Indexed DescriptorsIndexed past.now → put result ≡ before range index (taken past.now) }

@@ -16,8 +16,7 @@ loop-old-init c =
     let x = decode c.args.new.now.record.now in
     let v = entry_at c.args.new.now.index x (taken p) in
     let vs = standing (taken p) in
-    let z = rw (← c.into_iter-old-iterator.ensures.into_iter_gives, c.bucket_by.ensures.0, c.a.ensures) at c.chain-old-items.ensures in
-    (
+    let z = rw (← c.into_iter-old-iterator.ensures.into_iter_gives, c.bucket_by-bucket.ensures.0, c.a.ensures) at c.chain-old-items.ensures in (
       on_first z,
       λ k en el. along_first _ (earliest_skip p.cap x.a p.log.now (new_faulty v vs) (faulty_range v vs) None) k.stated refl (one_below x.a p.positive)
           (earliest_start p.cap x.a p.log.now (new_faulty v vs) p.count) z,
@@ -32,8 +31,7 @@ loop-old-preserved-then-becomes_faulty c =
     let vs = standing (taken p) in
     let old = c.in-Some.old in
     let o = c.loop-old.invariant.0 in
-    let e = c.in-Some.ensures.steps in
-    (
+    let e = c.in-Some.ensures.steps in (
       on_next o e,
       λ k en el.
           let w = c.loop-old.invariant.1 k en el in
@@ -50,8 +48,7 @@ loop-old-preserved c =
     let v = entry_at n.index x (taken p) in
     let vs = standing (taken p) in
     let o = c.loop-old.invariant.0 in
-    let e = c.in-Some.ensures.steps in
-    (
+    let e = c.in-Some.ensures.steps in (
       on_next o e,
       λ k en el.
           let w = c.loop-old.invariant.1 k en el in

@@ -3,15 +3,8 @@ use Rattle.std.specs.Prelude.{Some}
 use mathlib.Core.Path.{ap, sym, ◌∙◌}
 use Rattle.record.specs.Records.{decode}
 use Rattle.history.specs.Pasts.{taken}
-use Rattle.descriptors.proofs.Judged.{place_is, place_free, put_same, put_differs}
+use Rattle.descriptors.proofs.Judged.{place_is, put_same, put_differs}
 use Rattle.descriptors.proofs.check.put_case.Goals as goal
-
-pub returns-in_default : goal.returns-in_default
-returns-in_default c = λ k role clear.
-    let a = c.args in
-    let x = decode a.rec.now in
-    let h = taken a.past.now in
-    c.new_put_case.ensures k role (place_free x h a.index (place_is x h a.index c.a.ensures (c.in_default.ensures.standing k))) clear
 
 pub returns-then-same_held : goal.returns-then-same_held
 returns-then-same_held c = λ k role clear.

@@ -14,7 +14,7 @@ use Rattle.descriptors.proofs.value.greatest.Goals as goal
 pub loop-old-init : goal.loop-old-init
 loop-old-init c =
     let a = c.args in
-    let z = rw (← c.into_iter-old-iterator.ensures.into_iter_gives) at c.standing-old-items.ensures.begins in
+    let z = rw (← c.into_iter-old-iterator.ensures.into_iter_gives) at c.standing-old-items.ensures in
     (on_first z, (tt, λ k. weighs_first (greatest_weighs (up_to a.range a.index a.generation)) (up_to_range a.range a.index a.generation) a.past.now k z))
 
 pub returns-then-is_rising-clause-greatest : goal.returns-then-is_rising-clause-greatest
@@ -44,8 +44,7 @@ loop-old-preserved-else-is_rising c =
     let o = c.loop-old.invariant.0 in
     let e = c.in-Some.ensures.steps in
     let passes = sym c.is_up_to.ensures ∙ c.if-is_up_to.true in
-    let better = c.better-best.ensures.better (λ kept next. ltb next kept) (λ x y b k. search (rules, tests)) in
-    (
+    let better = c.better-best.ensures.better (λ kept next. ltb next kept) (λ x y b k. search (rules, tests)) in (
       on_next o e,
       (
         c.better-best.ensures.found p c.loop-old.invariant.1.0 (taken_on o e),
@@ -62,8 +61,7 @@ loop-old-preserved c =
     let R = up_to_range a.range a.index a.generation in
     let o = c.loop-old.invariant.0 in
     let e = c.in-Some.ensures.steps in
-    let passes_not = sym c.is_up_to.ensures ∙ c.if-is_up_to.false in
-    (
+    let passes_not = sym c.is_up_to.ensures ∙ c.if-is_up_to.false in (
       on_next o e,
       (
         c.loop-old.invariant.1.0,

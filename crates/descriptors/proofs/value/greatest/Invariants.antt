@@ -1,16 +1,14 @@
 -- A walk along the range's standing values: the best so far, weighed against the greatest of the rest, stays the greatest of all,
 -- and past a marked one that passes the rest is below it.
 use Rattle.rules.specs.Descriptors.{standing}
-use Rattle.rules.specs.History.{latest_of}
 use Rattle.history.proofs.Chains.{Stands}
 use Rattle.history.proofs.Pasts.{OnPast}
 use Rattle.history.specs.Buckets.{bucket_by}
-use Rattle.history.specs.Logs.{hist}
 use Rattle.history.specs.Pasts.{taken, Indexed, IsFound}
 use Rattle.history.specs.Places.{standing_links}
-use Rattle.descriptors.specs.Answers.{greatest_up_to, lowest_above, at_place}
+use Rattle.descriptors.specs.Answers.{greatest_up_to}
 use Rattle.descriptors.specs.Columns.{DescriptorsIndexed, standing_bucket}
-use Rattle.descriptors.proofs.Walks.{Greatest, Lowest}
+use Rattle.descriptors.proofs.Walks.{Greatest}
 use Rattle.descriptors.proofs.value.greatest.Given as goal
 
 abbrev pub invariant-loop-old : goal.invariant-loop-old

@@ -14,7 +14,7 @@ use Rattle.descriptors.proofs.value.lowest.Goals as goal
 pub loop-old-init : goal.loop-old-init
 loop-old-init c =
     let a = c.args in
-    let z = rw (← c.into_iter-old-iterator.ensures.into_iter_gives) at c.standing-old-items.ensures.begins in
+    let z = rw (← c.into_iter-old-iterator.ensures.into_iter_gives) at c.standing-old-items.ensures in
     (on_first z, (tt, λ k. weighs_first (lowest_weighs (above a.range a.index a.generation)) (above_range a.range a.index a.generation) a.past.now k z))
 
 pub returns-then-is_rest_below-clause-lowest : goal.returns-then-is_rest_below-clause-lowest
@@ -40,8 +40,7 @@ loop-old-preserved-then-is_above c =
     let o = c.loop-old.invariant.0 in
     let e = c.in-Some.ensures.steps in
     let passes = sym c.is_above.ensures ∙ c.if-is_above.true in
-    let better = c.better-best.ensures.better (λ kept next. ltb kept next) (λ x y b k. search (rules, tests)) in
-    (
+    let better = c.better-best.ensures.better (λ kept next. ltb kept next) (λ x y b k. search (rules, tests)) in (
       on_next o e,
       (
         c.better-best.ensures.found p c.loop-old.invariant.1.0 (taken_on o e),
@@ -58,8 +57,7 @@ loop-old-preserved c =
     let R = above_range a.range a.index a.generation in
     let o = c.loop-old.invariant.0 in
     let e = c.in-Some.ensures.steps in
-    let passes_not = sym c.is_above.ensures ∙ c.if-is_above.false in
-    (
+    let passes_not = sym c.is_above.ensures ∙ c.if-is_above.false in (
       on_next o e,
       (
         c.loop-old.invariant.1.0,

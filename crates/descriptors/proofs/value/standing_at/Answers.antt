@@ -10,7 +10,7 @@ pub loop-old-init : goal.loop-old-init
 loop-old-init c =
     let a = c.args in
     let p = a.past.now in
-    let z = rw (← c.into_iter-old-iterator.ensures.into_iter_gives) at c.standing-old-items.ensures.begins in
+    let z = rw (← c.into_iter-old-iterator.ensures.into_iter_gives) at c.standing-old-items.ensures in
     (on_first z, λ k. along_first _ (place_skip p.cap a.range a.index p.log.now) k.standing refl (one_below a.range p.positive) refl z)
 
 pub returns-then-is_at-clause-standing : goal.returns-then-is_at-clause-standing
@@ -35,8 +35,7 @@ loop-old-preserved c =
     let a = c.args in
     let p = a.past.now in
     let o = c.loop-old.invariant.0 in
-    let e = c.in-Some.ensures.steps in
-    (
+    let e = c.in-Some.ensures.steps in (
       on_next o e,
       λ k.
           let w = c.loop-old.invariant.1 k in

@@ -6,11 +6,10 @@ use Rattle.history.proofs.Chains.{Stands}
 use Rattle.history.proofs.Pasts.{OnPast}
 use Rattle.history.specs.Buckets.{bucket_by}
 use Rattle.history.specs.Logs.{hist}
-use Rattle.history.specs.Pasts.{taken, Indexed, IsFound}
+use Rattle.history.specs.Pasts.{taken, Indexed}
 use Rattle.history.specs.Places.{standing_links}
-use Rattle.descriptors.specs.Answers.{greatest_up_to, lowest_above, at_place}
+use Rattle.descriptors.specs.Answers.{at_place}
 use Rattle.descriptors.specs.Columns.{DescriptorsIndexed, standing_bucket}
-use Rattle.descriptors.proofs.Walks.{Greatest, Lowest}
 use Rattle.descriptors.proofs.value.standing_at.Given as goal
 
 abbrev pub invariant-loop-old : goal.invariant-loop-old
