@@ -1,9 +1,10 @@
 -- One more record in the columns of `Descriptors`: the chains that it belongs to, and the counts. Assumes nothing.
 use mathlib.Core.Path.{◌≡◌, refl, sym, ap, ◌∙◌}
-use mathlib.Core.Bool.{Bool, true, false, cond, not, ◌&&◌, ◌||◌, not-not}
+use mathlib.Core.Bool.{Bool, true, false, cond, not, ◌&&◌, ◌||◌}
 use mathlib.Core.List.{List, [], ◌∷◌}
-use Rattle.std.specs.Prelude.{Option, None, Some}
-use mathlib.Core.Logic.{◌⊎◌, inl, inr}
+use Rattle.std.specs.Prelude.{Option, None, Some, MatchOption, ⊤}
+use Rattle.std.specs.Bool.{then_some}
+use mathlib.Core.Logic.{◌⊎◌, inl, inr, ⊎_elim}
 use Prim.Native.Nat.{ℕ, suc, ◌+◌, ◌-◌, ◌*◌, ◌/◌, ◌%◌, ◌≤◌, ◌<◌}
 use native.Mathlib.Omega.{arith}
 use lib.Dec.{eqb, leb}
@@ -12,22 +13,25 @@ use borrow.Author.Tests.{eq-eqb, ne_eqb}
 use Rattle.record.specs.Named.{Node}
 use Rattle.record.specs.Records.{TraceRecord}
 use Rattle.record.proofs.Booleans.{never}
-use Rattle.rules.specs.History.{History, Tells, is_kind, is_some, when, given, holds, any_of, latest_of, earliest_of, add_some, add_first, told, firsts}
+use Rattle.rules.specs.History.{History, Tells, is_kind, is_some, when, given, holds, any_of, latest_of, add_some, add_first, told, firsts}
 use Rattle.rules.specs.Descriptors.{Entry, Role, puts, states, neither, held_by, role_of, entry_at, put_by, stated_by, tells_put, tells_stated, same_place, standing, stated, statements, is_empty, first_at_generation_in, first_at_generation}
 use Rattle.rules.proofs.Placed.{any_earliest, any_latest}
 use Rattle.rules.proofs.Roles.{puts_entry, states_entry, put_generation}
 use Rattle.rules.proofs.Standing.{standing_cons, stated_cons}
 use Rattle.history.specs.Places.{applied_heads, applied_links, standing_heads, standing_links, stated_heads, stated_links, generation_heads, generation_links, counts}
-use Rattle.history.specs.Columns.{Column, cell_of, Chained, clamp, Put}
+use Rattle.history.specs.Columns.{Column, cell_of, Chained, Put}
+use Rattle.history.specs.declared.walk.Taken.{Taken}
 use Rattle.history.proofs.Cells.{cell_new, Same, put_apart, column_agrees, column_put, Zeros, column_clear}
-use Rattle.history.proofs.Chains.{clamped, chained_agrees, entered, not_entered, chained_clear}
+use Rattle.history.proofs.Chains.{chained_agrees, entered, not_entered, chained_clear}
+use Rattle.history.proofs.Mixing.{one_below, two_below}
 use Rattle.history.specs.Buckets.{bucket_by, bucket_by_two}
 use Rattle.descriptors.specs.declared.note.Told.{Told}
-use Rattle.descriptors.specs.Columns.{new_value, first_value, same_generation, applied_at, applied_bucket, standing_bucket, stated_bucket, generation_bucket, not_below, is_rising, counts_of, counts_after, DescriptorsIndexed, put, marked_bucket, EnteredIf, AllEntered, Telling, counts_next, own_columns, DescriptorsNoted}
-use Rattle.descriptors.specs.Answers.{greatest_up_to}
+use Rattle.descriptors.specs.declared.note.Told.TheVariants.{Puts, States, Neither}
+use Rattle.descriptors.specs.Columns.{new_value, first_value, same_generation, applied_at, applied_bucket, standing_bucket, stated_bucket, generation_bucket, not_below, is_rising, counts_of, counts_after, DescriptorsIndexed, put, EnteredIf, AllEntered, puts_value, states_value, added, adds_first, adds_rising, Telling, counts_next, own_columns}
+use Rattle.descriptors.specs.Answers.{at_place, greatest_up_to}
 use Rattle.descriptors.proofs.Rising.{counts_by, counts_bound, top_reaches}
 use Rattle.descriptors.proofs.Roles.{new_puts, first_new}
-use Rattle.descriptors.proofs.Judged.{put_is_some}
+use Rattle.descriptors.proofs.Judged.{put_is_some, place_is}
 
 -- ---- what a record is told to be
 
@@ -66,7 +70,7 @@ module _ (x : TraceRecord) (h : History) (i : ℕ) (role : role_of x h ≡ puts 
   rising_by f = rw (new_yes f)
 
   -- a put at a place that is taken
-  pub told_taken : {t : Told} → t ≡ record { puts = true; states = false; stands = false; first = false; rises = false }
+  pub told_taken : {t : Told} → t ≡ Puts None
       → any_of (same_place (entry_at i x h)) (standing h) ≡ true → Telling x h t
   told_taken e f = rw e (record {
     puts = sym (ap is_some tells_put_lem);
@@ -81,7 +85,7 @@ module _ (x : TraceRecord) (h : History) (i : ℕ) (role : role_of x h ≡ puts 
   not_some false = refl
 
   -- and at one that is free
-  pub told_free : {t : Told} {b r : Bool} → t ≡ record { puts = true; states = false; stands = true; first = b; rises = r }
+  pub told_free : {t : Told} {b r : Bool} → t ≡ Puts (Some (record { first = b; rises = r }))
       → any_of (same_place (entry_at i x h)) (standing h) ≡ false → b ≡ not (any_of (same_generation (entry_at i x h)) (standing h))
       → r ≡ not (any_of (not_below (entry_at i x h)) (standing h)) → Telling x h t
   told_free e f b r = rw e (record {
@@ -93,31 +97,24 @@ module _ (x : TraceRecord) (h : History) (i : ℕ) (role : role_of x h ≡ puts 
   })
 
 -- whether a first value of the generation was found
-pub first_free : (log : List ℕ) (m : ℕ) (x : TraceRecord) (h : History) (i : ℕ) {ra rd : ℕ} → ra ≡ x.a → rd ≡ x.d → put log m ≡ first_at_generation ra rd h
-    → eqb m 0 ≡ not (any_of (same_generation (entry_at i x h)) (standing h))
+pub first_free : (x : TraceRecord) (h : History) (i : ℕ) {range generation : ℕ} (o : Option Taken) → range ≡ x.a → generation ≡ x.d
+    → put o ≡ first_at_generation range generation h → is_some o ≡ any_of (same_generation (entry_at i x h)) (standing h)
 unfolding first_at_generation first_at_generation_in held_by
-first_free log m x h i {ra} {rd} a d e =
-    let q : is_some (earliest_of (λ v. eqb v.range ra && eqb v.held.generation rd) (standing h)) ≡ any_of (same_generation (entry_at i x h)) (standing h) =
-    rw (a, d) (sym (any_earliest (λ v. eqb v.range x.a && eqb v.held.generation x.d) (standing h))) in
-    sym (not-not (eqb m 0)) ∙ ap not (put_is_some log m e ∙ q)
+first_free x h i o a d e = put_is_some o e ∙ rw (a, d) (sym (any_earliest (λ v. eqb v.range x.a && eqb v.held.generation x.d) (standing h)))
 
 -- whether the greatest of the range is below
-pub top_below : (log : List ℕ) (m : ℕ) (x : TraceRecord) (h : History) (i : ℕ) {ra : ℕ} {r : Bool} → ra ≡ x.a
-    → put log m ≡ greatest_up_to ra true 0 true 0 (standing h)
-    → r ≡ not (holds (λ v. leb i v.index) (put log m)) → r ≡ not (any_of (not_below (entry_at i x h)) (standing h))
-top_below log m x h i a e q =
-    let w : holds (λ v. leb i v.index) (put log m) ≡ any_of (not_below (entry_at i x h)) (standing h) = rw (e, a) (top_reaches (entry_at i x h) (standing h)) in
-    q ∙ ap not w
+pub top_below : (x : TraceRecord) (h : History) (i : ℕ) {range : ℕ} {o : Option Entry} → range ≡ x.a → o ≡ greatest_up_to range None None (standing h)
+    → holds (λ v. leb i v.index) o ≡ any_of (not_below (entry_at i x h)) (standing h)
+top_below x h i a e = rw (e, a) (top_reaches (entry_at i x h) (standing h))
 
-pub told_states : (x : TraceRecord) (h : History) (i : ℕ) {t : Told} → role_of x h ≡ states i
-    → t ≡ record { puts = false; states = true; stands = false; first = false; rises = false } → Telling x h t
-unfolding new_value first_value is_rising
-told_states x h i role e = rw e (record { puts = rw role; states = rw role; stands = rw role; first = rw role; rises = rw role })
+module _ (x : TraceRecord) (h : History) where
+  pub told_states : (i : ℕ) → role_of x h ≡ states i → Telling x h States
+  unfolding new_value first_value is_rising
+  told_states i role = record { puts = rw role; states = rw role; stands = rw role; first = rw role; rises = rw role }
 
-pub told_neither : (x : TraceRecord) (h : History) {t : Told} → role_of x h ≡ neither
-    → t ≡ record { puts = false; states = false; stands = false; first = false; rises = false } → Telling x h t
-unfolding new_value first_value is_rising
-told_neither x h role e = rw e (record { puts = rw role; states = rw role; stands = rw role; first = rw role; rises = rw role })
+  pub told_neither : role_of x h ≡ neither → Telling x h Neither
+  unfolding new_value first_value is_rising
+  told_neither role = record { puts = rw role; states = rw role; stands = rw role; first = rw role; rises = rw role }
 
 -- ---- the buckets of a record, by what it is told to be
 
@@ -128,24 +125,24 @@ module _ (x : TraceRecord) (h : History) {v : Entry} where
   stated_range : tells_stated x h ≡ Some v → v.range ≡ x.a
   stated_range e = ap (λ (u : Entry). u.range) (states_entry x h e)
 
-when_go : (o : Option Entry) (f : Entry → ℕ) (b : ℕ) → ((v : Entry) → o ≡ Some v → f v ≡ b) → given (λ v. Some (f v)) o ≡ when (is_some o) b
+when_go : (o : Option Entry) (f : Entry → ℕ) (b : ℕ) → ((v : Entry) → o ≡ Some v → f v ≡ b) → given (λ v. Some (f v)) o ≡ then_some (is_some o) b
 when_go None f b e = refl
 when_go (Some v) f b e = ap Some (e v refl)
 
 module _ (cap : ℕ) (x : TraceRecord) (h : History) where
-  standing_when : standing_bucket cap x h ≡ when (is_some (new_value x h)) (bucket_by cap x.a)
+  standing_when : standing_bucket cap x h ≡ then_some (is_some (new_value x h)) (bucket_by cap x.a)
   unfolding standing_bucket
   standing_when =
       when_go (new_value x h) (λ v. bucket_by cap v.range) (bucket_by cap x.a)
       (λ v e. ap (bucket_by cap) (put_range x h (new_puts x h e)))
 
-  stated_when : stated_bucket cap x h ≡ when (is_some (tells_stated x h)) (bucket_by cap x.a)
+  stated_when : stated_bucket cap x h ≡ then_some (is_some (tells_stated x h)) (bucket_by cap x.a)
   unfolding stated_bucket
   stated_when =
       when_go (tells_stated x h) (λ v. bucket_by cap v.range) (bucket_by cap x.a)
       (λ v e. ap (bucket_by cap) (stated_range x h e))
 
-  generation_when : generation_bucket cap x h ≡ when (is_some (first_value x h)) (bucket_by_two cap x.a x.d)
+  generation_when : generation_bucket cap x h ≡ then_some (is_some (first_value x h)) (bucket_by_two cap x.a x.d)
   unfolding generation_bucket
   generation_when =
       when_go (first_value x h) (λ v. bucket_by_two cap v.range v.held.generation) (bucket_by_two cap x.a x.d)
@@ -154,14 +151,6 @@ module _ (cap : ℕ) (x : TraceRecord) (h : History) where
       let a : v.range ≡ x.a = put_range x h p in
       let d : v.held.generation ≡ x.d = put_generation x h p in
       rw (a, d))
-
-  applied_go : (n : Node) → applied_at cap x n ≡ when (is_some n && (is_kind 1 x || is_kind 3 x || is_kind 4 x)) (marked_bucket cap x n)
-  applied_go None = refl
-  applied_go (Some n) = refl
-
-  applied_when : applied_bucket cap x h ≡ when (is_some x.node && (is_kind 1 x || is_kind 3 x || is_kind 4 x)) (marked_bucket cap x x.node)
-  unfolding applied_bucket
-  applied_when = applied_go x.node
 
 -- ---- the counts
 
@@ -194,26 +183,18 @@ counts_none [] n e z = refl
 counts_none (x ∷ h) n e z = absurd (omega (arith, e))
 
 -- a word without its mark
-word_bound : (c : ℕ) (b : Bool) → c ≤ 8193 → c + cond b 16384 0 ≤ 24577
-word_bound c true l = omega arith
-word_bound c false l = omega arith
-
 word_rest : (c : ℕ) (b : Bool) → c ≤ 8193 → (c + cond b 16384 0) % 16384 ≡ c
 word_rest c true l = omega arith
 word_rest c false l = omega arith
 
-pub counts_some : (cap : ℕ) (work : List ℕ) (h : History) (n : ℕ) {r : ℕ} → length h ≡ n → (n ≡ 0 → ⊥) → n ≤ cap → cap ≤ 4096 → DescriptorsIndexed cap h work
-    → r ≡ clamp (get_or work (counts * cap + (n - 1)) 0) 24577 → r % 16384 ≡ counts_of h
-counts_some cap work [] n e z l m k q = absurd (z (omega (arith, e)))
-counts_some cap work (x ∷ h) n e z l m k q =
+pub counts_some : {cap : ℕ} {work : List ℕ} (h : History) (n : ℕ) → length h ≡ n → (n ≡ 0 → ⊥) → n ≤ cap → cap ≤ 4096 → DescriptorsIndexed cap h work
+    → get_or work (counts * cap + (n - 1)) 0 % 16384 ≡ counts_of h
+counts_some [] n e z l m k = absurd (z (omega (arith, e)))
+counts_some (x ∷ h) n e z l m k =
     let p : length h ≡ n - 1 = omega (arith, e) in
-    let j : n - 1 < cap = omega arith in
-    let w : counts_of (x ∷ h) ≤ 8193 = omega (arith, counts_bound (x ∷ h), e) in
     ap (λ (w : ℕ). w % 16384)
-    (q ∙ clamped (get_or work (counts * cap + (n - 1)) 0) (counts_after x h) 24577
-    (k.counts.word (n - 1) j ∙ ap (cell_of counts_after (x ∷ h)) (sym p) ∙ cell_new counts_after x h)
-    (word_bound (counts_of (x ∷ h)) (is_rising x h) w))
-    ∙ word_rest (counts_of (x ∷ h)) (is_rising x h) w
+    (k.counts.word (n - 1) (omega arith) ∙ ap (cell_of counts_after (x ∷ h)) (sym p) ∙ cell_new counts_after x h)
+    ∙ word_rest (counts_of (x ∷ h)) (is_rising x h) (omega (arith, counts_bound (x ∷ h), e))
 
 half_go : (L : ℕ) (b : Bool) → (2 * L + cond b 0 1) / 2 ≡ L
 half_go L true = omega arith
@@ -233,22 +214,39 @@ counts_empty h e = rw (e, counts_by h) (rest_go (length (stated h)) (eqb (length
 
 -- ---- the chains
 
-length_if : (yes : Bool) {work work' : List ℕ} {heads links n b : ℕ} → EnteredIf yes work work' heads links n b → length work' ≡ length work
-length_if true e = e.is.len
-length_if false e = ap length e.is
+length_if : (o : Option ℕ) {work work' : List ℕ} {heads links n : ℕ} → EnteredIf work work' heads links n o → length work' ≡ length work
+length_if None e = ap length e.is
+length_if (Some b) e = e.is.len
 
-module _ {work work' : List ℕ} {heads links n b cap : ℕ} (yes : Bool) (e : EnteredIf yes work work' heads links n b) (l : n < cap) (m : b < cap) where
-  word_if : (j : ℕ) → (j ≡ links + n → ⊥) → (j ≡ heads + b → ⊥) → get_or work' j 0 ≡ get_or work j 0
-  word_if = go yes e
+-- a bucket is below the capacity, where there is one
+pub record Below (cap : ℕ) (o : Option ℕ) : Type 0 where
+  pub is : MatchOption o ⊤ (λ b. b < cap)
+
+pub some_below : {cap b : ℕ} (yes : Bool) → b < cap → Below cap (then_some yes b)
+some_below true l = record { is = l }
+some_below false l = record { is = tt }
+
+when_below : {cap b : ℕ} (yes : Bool) → b < cap → Below cap (when yes b)
+when_below true l = record { is = l }
+when_below false l = record { is = tt }
+
+applied_below : (cap : ℕ) (x : TraceRecord) → 0 < cap → (n : Node) → Below cap (applied_at cap x n)
+applied_below cap x z None = record { is = tt }
+applied_below cap x z (Some n) = when_below (is_kind 1 x || is_kind 3 x || is_kind 4 x) (two_below n.0 x.a z)
+
+module _ {work work' : List ℕ} {heads links n cap : ℕ} {o : Option ℕ} (e : EnteredIf work work' heads links n o) (l : n < cap) (m : Below cap o) where
+  word_if : (j : ℕ) → (j ≡ links + n → ⊥) → (j < heads) ⊎ (heads + cap ≤ j) → get_or work' j 0 ≡ get_or work j 0
+  word_if = go o e m
     where
-      go : (y : Bool) → EnteredIf y work work' heads links n b → (j : ℕ) → (j ≡ links + n → ⊥) → (j ≡ heads + b → ⊥) → get_or work' j 0 ≡ get_or work j 0
-      go true c j p q = c.is.others j p q
-      go false c j p q = ap (λ (w : List ℕ). get_or w j 0) c.is
+      go : (o : Option ℕ) → EnteredIf work work' heads links n o → Below cap o → (j : ℕ) → (j ≡ links + n → ⊥) → (j < heads) ⊎ (heads + cap ≤ j)
+          → get_or work' j 0 ≡ get_or work j 0
+      go None c w j p q = ap (λ (w : List ℕ). get_or w j 0) c.is
+      go (Some b) c w j p q = let k : b < cap = w.is in c.is.others j p (λ z. ⊎_elim (λ u. omega arith) (λ u. omega arith) q)
 
   -- a column before the heads or after the links is as it was
   same_if : (base : ℕ) → links ≡ heads + cap → (base + cap ≤ heads) ⊎ (heads + 2 * cap ≤ base) → Same base cap work work'
-  same_if base u (inl v) = record { word = λ k w. word_if (base + k) (λ z. omega arith) (λ z. omega arith) }
-  same_if base u (inr v) = record { word = λ k w. word_if (base + k) (λ z. omega arith) (λ z. omega arith) }
+  same_if base u (inl v) = record { word = λ k w. word_if (base + k) (λ z. omega arith) (inl (omega arith)) }
+  same_if base u (inr v) = record { word = λ k w. word_if (base + k) (λ z. omega arith) (inr (omega arith)) }
 
   -- and so is a chain
   chain_if : {f : Tells ℕ} {h : History} (heads2 links2 : ℕ) → links ≡ heads + cap → links2 ≡ heads2 + cap
@@ -258,112 +256,95 @@ module _ {work work' : List ℕ} {heads links n b cap : ℕ} (yes : Bool) (e : E
   chain_if heads2 links2 u v (inr w) c = chained_agrees (same_if heads2 u (inr (omega arith))) (same_if links2 u (inr (omega arith))) c
 
 -- the record is entered where it has a bucket
-step_if : {f : Tells ℕ} {heads links cap n b : ℕ} {h : History} {x : TraceRecord} {work work' : List ℕ} (yes : Bool) → f x h ≡ when yes b → length h ≡ n
-    → n < cap → b < cap
-    → heads + cap ≤ links → EnteredIf yes work work' heads links n b → Chained f heads links cap h work → Chained f heads links cap (x ∷ h) work'
-step_if true e p l m u w c = entered p l m u e w.is c
-step_if {f} {heads} {links} {cap} {h = h} {x = x} false e p l m u w c = rw w.is (not_entered e c)
-
-pub entered_at : (t : Bool) {work work' : List ℕ} {heads links heads2 links2 n b : ℕ} → heads ≡ heads2 → links ≡ links2
-    → EnteredIf t work work' heads links n b → EnteredIf t work work' heads2 links2 n b
-entered_at t p q e = rw (p, q) at e
+step_if : {f : Tells ℕ} {heads links cap n : ℕ} {h : History} {x : TraceRecord} {work work' : List ℕ} (o : Option ℕ) → f x h ≡ o → length h ≡ n
+    → n < cap → Below cap o → heads + cap ≤ links → EnteredIf work work' heads links n o → Chained f heads links cap h work
+    → Chained f heads links cap (x ∷ h) work'
+step_if {f} {heads} {links} {cap} {h = h} {x = x} None e p l m u w c = rw w.is (not_entered e c)
+step_if (Some b) e p l m u w c = entered p l m.is u e w.is c
 
 -- ---- the columns with the record
 
-module _ (work work' w4 : List ℕ) (count cap : ℕ) (x : TraceRecord) (t : Told) (nodes ranges generations after old : ℕ) (applied : Bool)
-    (l : count < cap) (nl : nodes < cap) (rl : ranges < cap) (gl : generations < cap)
-    (a : AllEntered work w4 count cap nodes applied ranges t.stands t.states generations t.first) (p : Put w4 work' (counts * cap + count) after) where
-  word : (j : ℕ) → own_columns * cap ≤ j → get_or work' j 0 ≡ get_or work j 0
-  word j h =
-      p.others j (λ z. omega arith)
-      ∙ word_if t.first a.entered_by_generation l gl j (λ z. omega arith) (λ z. omega arith)
-      ∙ word_if t.states a.entered_by_statement l rl j (λ z. omega arith) (λ z. omega arith)
-      ∙ word_if t.stands a.entered_by_range l rl j (λ z. omega arith) (λ z. omega arith)
-      ∙ word_if applied a.entered_by_node l nl j (λ z. omega arith) (λ z. omega arith)
+module _ {work work' w4 : List ℕ} {count cap after : ℕ} {x : TraceRecord} {t : Told} (l : count < cap) (z : 0 < cap) (s : cap ≤ 4096)
+    (a : AllEntered work w4 count cap x t) (p : Put w4 work' (counts * cap + count) after) where
+  by_node : Below cap (applied_at cap x x.node)
+  by_node = applied_below cap x z x.node
 
-  size : length work' ≡ length work
-  size =
-      p.len ∙ length_if t.first a.entered_by_generation ∙ length_if t.states a.entered_by_statement ∙ length_if t.stands a.entered_by_range
-      ∙ length_if applied a.entered_by_node
+  by_range : (t : Bool) → Below cap (then_some t (bucket_by cap x.a))
+  by_range t = some_below t (one_below x.a z)
+
+  by_both : (t : Bool) → Below cap (then_some t (bucket_by_two cap x.a x.d))
+  by_both t = some_below t (two_below x.a x.d z)
+
+  pub words : (j : ℕ) → own_columns * cap ≤ j → get_or work' j 0 ≡ get_or work j 0
+  words j h =
+      p.others j (λ z. omega arith)
+      ∙ word_if a.entered_by_generation l (by_both (adds_first t)) j (λ z. omega arith) (inr (omega arith))
+      ∙ word_if a.entered_by_statement l (by_range (states_value t)) j (λ z. omega arith) (inr (omega arith))
+      ∙ word_if a.entered_by_range l (by_range (is_some (added t))) j (λ z. omega arith) (inr (omega arith))
+      ∙ word_if a.entered_by_node l by_node j (λ z. omega arith) (inr (omega arith))
+
+  pub size : length work' ≡ length work
+  size = p.len ∙ length_if _ a.entered_by_generation ∙ length_if _ a.entered_by_statement ∙ length_if _ a.entered_by_range ∙ length_if _ a.entered_by_node
 
   put_chain : {f : Tells ℕ} {h : History} (heads links : ℕ) → heads + cap ≤ counts * cap → links + cap ≤ counts * cap → Chained f heads links cap h w4
       → Chained f heads links cap h work'
   put_chain heads links u v c = chained_agrees (put_apart p (λ k w z. omega arith)) (put_apart p (λ k w z. omega arith)) c
 
-  module _ (ne : nodes ≡ marked_bucket cap x x.node) (ae : applied ≡ is_some x.node && (is_kind 1 x || is_kind 3 x || is_kind 4 x))
-      (re : ranges ≡ bucket_by cap x.a) (ge : generations ≡ bucket_by_two cap x.a x.d)
-      (ce : after ≡ counts_next old t.puts t.states + cond t.rises 16384 0)
+  module _ {old : ℕ} (ce : after ≡ counts_next old (puts_value t) (states_value t) + cond (adds_rising t) 16384 0)
       (h : History) (n : length h ≡ count) (oe : old ≡ counts_of h) (k : Telling x h t) (d : DescriptorsIndexed cap h work) where
-    applied_at_lem : applied_bucket cap x h ≡ when applied nodes
-    applied_at_lem = applied_when cap x h ∙ rw (ae, ne)
-
-    standing_at : standing_bucket cap x h ≡ when t.stands ranges
-    standing_at = standing_when cap x h ∙ rw (k.stands, re)
-
-    stated_at : stated_bucket cap x h ≡ when t.states ranges
-    stated_at = stated_when cap x h ∙ rw (k.states, re)
-
-    generation_at : generation_bucket cap x h ≡ when t.first generations
-    generation_at = generation_when cap x h ∙ rw (k.first, ge)
-
     counts_at : after ≡ counts_after x h
     counts_at = ce ∙ rw (oe, k.puts, k.states, k.rises) (ap (λ (c : ℕ). c + cond (is_rising x h) 16384 0) (sym (counts_more x h)))
 
     entered_by_node : Chained (applied_bucket cap) (applied_heads * cap) (applied_links * cap) cap (x ∷ h) work'
+    unfolding applied_bucket
     entered_by_node =
         put_chain (applied_heads * cap) (applied_links * cap) (omega arith) (omega arith)
-        (chain_if t.first a.entered_by_generation l gl (applied_heads * cap) (applied_links * cap) (omega arith) (omega arith) (inl (omega arith))
-        (chain_if t.states a.entered_by_statement l rl (applied_heads * cap) (applied_links * cap) (omega arith) (omega arith) (inl (omega arith))
-        (chain_if t.stands a.entered_by_range l rl (applied_heads * cap) (applied_links * cap) (omega arith) (omega arith) (inl (omega arith))
-        (step_if applied applied_at_lem n l nl (omega arith) a.entered_by_node d.applied))))
+        (chain_if a.entered_by_generation l (by_both _) (applied_heads * cap) (applied_links * cap) (omega arith) (omega arith) (inl (omega arith))
+        (chain_if a.entered_by_statement l (by_range _) (applied_heads * cap) (applied_links * cap) (omega arith) (omega arith) (inl (omega arith))
+        (chain_if a.entered_by_range l (by_range _) (applied_heads * cap) (applied_links * cap) (omega arith) (omega arith) (inl (omega arith))
+        (step_if _ refl n l by_node (omega arith) a.entered_by_node d.applied))))
 
     entered_by_range : Chained (standing_bucket cap) (standing_heads * cap) (standing_links * cap) cap (x ∷ h) work'
     entered_by_range =
         put_chain (standing_heads * cap) (standing_links * cap) (omega arith) (omega arith)
-        (chain_if t.first a.entered_by_generation l gl (standing_heads * cap) (standing_links * cap) (omega arith) (omega arith) (inl (omega arith))
-        (chain_if t.states a.entered_by_statement l rl (standing_heads * cap) (standing_links * cap) (omega arith) (omega arith) (inl (omega arith))
-        (step_if t.stands standing_at n l rl (omega arith) a.entered_by_range
-        (chain_if applied a.entered_by_node l nl (standing_heads * cap) (standing_links * cap) (omega arith) (omega arith) (inr (omega arith)) d.standing))))
+        (chain_if a.entered_by_generation l (by_both _) (standing_heads * cap) (standing_links * cap) (omega arith) (omega arith) (inl (omega arith))
+        (chain_if a.entered_by_statement l (by_range _) (standing_heads * cap) (standing_links * cap) (omega arith) (omega arith) (inl (omega arith))
+        (step_if _ (standing_when cap x h ∙ rw k.stands) n l (by_range _) (omega arith) a.entered_by_range
+        (chain_if a.entered_by_node l by_node (standing_heads * cap) (standing_links * cap) (omega arith) (omega arith) (inr (omega arith)) d.standing))))
 
     entered_by_statement : Chained (stated_bucket cap) (stated_heads * cap) (stated_links * cap) cap (x ∷ h) work'
     entered_by_statement =
         put_chain (stated_heads * cap) (stated_links * cap) (omega arith) (omega arith)
-        (chain_if t.first a.entered_by_generation l gl (stated_heads * cap) (stated_links * cap) (omega arith) (omega arith) (inl (omega arith))
-        (step_if t.states stated_at n l rl (omega arith) a.entered_by_statement
-        (chain_if t.stands a.entered_by_range l rl (stated_heads * cap) (stated_links * cap) (omega arith) (omega arith) (inr (omega arith))
-        (chain_if applied a.entered_by_node l nl (stated_heads * cap) (stated_links * cap) (omega arith) (omega arith) (inr (omega arith)) d.stated))))
+        (chain_if a.entered_by_generation l (by_both _) (stated_heads * cap) (stated_links * cap) (omega arith) (omega arith) (inl (omega arith))
+        (step_if _ (stated_when cap x h ∙ rw k.states) n l (by_range _) (omega arith) a.entered_by_statement
+        (chain_if a.entered_by_range l (by_range _) (stated_heads * cap) (stated_links * cap) (omega arith) (omega arith) (inr (omega arith))
+        (chain_if a.entered_by_node l by_node (stated_heads * cap) (stated_links * cap) (omega arith) (omega arith) (inr (omega arith)) d.stated))))
 
     entered_by_generation : Chained (generation_bucket cap) (generation_heads * cap) (generation_links * cap) cap (x ∷ h) work'
     entered_by_generation =
         put_chain (generation_heads * cap) (generation_links * cap) (omega arith) (omega arith)
-        (step_if t.first generation_at n l gl (omega arith) a.entered_by_generation
-        (chain_if t.states a.entered_by_statement l rl (generation_heads * cap) (generation_links * cap) (omega arith) (omega arith) (inr (omega arith))
-        (chain_if t.stands a.entered_by_range l rl (generation_heads * cap) (generation_links * cap) (omega arith) (omega arith) (inr (omega arith))
-        (chain_if applied a.entered_by_node l nl (generation_heads * cap) (generation_links * cap) (omega arith) (omega arith)
+        (step_if _ (generation_when cap x h ∙ rw k.first) n l (by_both _) (omega arith) a.entered_by_generation
+        (chain_if a.entered_by_statement l (by_range _) (generation_heads * cap) (generation_links * cap) (omega arith) (omega arith) (inr (omega arith))
+        (chain_if a.entered_by_range l (by_range _) (generation_heads * cap) (generation_links * cap) (omega arith) (omega arith) (inr (omega arith))
+        (chain_if a.entered_by_node l by_node (generation_heads * cap) (generation_links * cap) (omega arith) (omega arith)
         (inr (omega arith)) d.generation))))
 
     by_counts : Column (cell_of counts_after (x ∷ h)) (counts * cap) cap work'
     by_counts =
         column_put counts_after h x
-        (column_agrees (same_if t.first a.entered_by_generation l gl (counts * cap) (omega arith) (inr (omega arith)))
-        (column_agrees (same_if t.states a.entered_by_statement l rl (counts * cap) (omega arith) (inr (omega arith)))
-        (column_agrees (same_if t.stands a.entered_by_range l rl (counts * cap) (omega arith) (inr (omega arith)))
-        (column_agrees (same_if applied a.entered_by_node l nl (counts * cap) (omega arith) (inr (omega arith))) d.counts))))
+        (column_agrees (same_if a.entered_by_generation l (by_both _) (counts * cap) (omega arith) (inr (omega arith)))
+        (column_agrees (same_if a.entered_by_statement l (by_range _) (counts * cap) (omega arith) (inr (omega arith)))
+        (column_agrees (same_if a.entered_by_range l (by_range _) (counts * cap) (omega arith) (inr (omega arith)))
+        (column_agrees (same_if a.entered_by_node l by_node (counts * cap) (omega arith) (inr (omega arith))) d.counts))))
         n refl counts_at p
 
-    all : DescriptorsIndexed cap (x ∷ h) work'
-    all = record { applied = entered_by_node; standing = entered_by_range; stated = entered_by_statement; generation = entered_by_generation; counts = by_counts }
+    pub noted : DescriptorsIndexed cap (x ∷ h) work'
+    noted = record { applied = entered_by_node; standing = entered_by_range; stated = entered_by_statement; generation = entered_by_generation; counts = by_counts }
 
-  pub noted : nodes ≡ marked_bucket cap x x.node → applied ≡ is_some x.node && (is_kind 1 x || is_kind 3 x || is_kind 4 x)
-      → ranges ≡ bucket_by cap x.a → generations ≡ bucket_by_two cap x.a x.d → after ≡ counts_next old t.puts t.states + cond t.rises 16384 0
-      → ((h : History) → length h ≡ count → DescriptorsIndexed cap h work → old ≡ counts_of h) → DescriptorsNoted work work' count cap x t
-  noted ne ae re ge ce oe = record { len = size; others = word; indexed = λ h n k d. all ne ae re ge ce h n (oe h n d) k d }
-
--- a value was found at the place of a put
-pub place_taken : (log : List ℕ) (n : ℕ) (x : TraceRecord) (h : History) (index : ℕ) → put log n ≡ latest_of (same_place (entry_at index x h)) (standing h)
-    → (n ≡ 0 → ⊥) → any_of (same_place (entry_at index x h)) (standing h) ≡ true
-place_taken log n x h index e z =
-    any_latest (same_place (entry_at index x h)) (standing h) ∙ sym (put_is_some log n e) ∙ ap not (ne_eqb n 0 z)
+-- whether a value was found at the place of a put
+pub place_is_taken : (x : TraceRecord) (h : History) (i : ℕ) {range : ℕ} (o : Option Taken) → range ≡ x.a
+    → put o ≡ latest_of (at_place range i) (standing h) → is_some o ≡ any_of (same_place (entry_at i x h)) (standing h)
+place_is_taken x h i o a e = put_is_some o (place_is x h i a e) ∙ sym (any_latest (same_place (entry_at i x h)) (standing h))
 
 -- ---- the columns at the opening, and where other columns are written
 

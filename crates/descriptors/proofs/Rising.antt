@@ -5,7 +5,7 @@ use mathlib.Core.Bool.{Bool, true, false, cond, not, ◌&&◌, ◌||◌}
 use mathlib.Core.List.{List, [], ◌∷◌}
 use Rattle.std.specs.Prelude.{Option, None, Some}
 use mathlib.Core.Logic.{⊎_elim}
-use Prim.Native.Nat.{ℕ, suc, ◌+◌, ◌*◌, ◌≤◌, ◌<◌}
+use Prim.Native.Nat.{ℕ, suc, ◌+◌, ◌-◌, ◌*◌, ◌≤◌, ◌<◌}
 use native.Mathlib.Omega.{arith}
 use native.Mathlib.Decide.{dec_lt}
 use lib.Dec.{eqb, ltb, leb}
@@ -17,6 +17,9 @@ use Rattle.rules.specs.Descriptors.{Entry, tells_stated, standing, stated, state
 use Rattle.rules.proofs.Members.{any_of_mem, any_of_none, any_of_less}
 use Rattle.rules.proofs.Placed.{placed_mem, latest_none as none_latest}
 use Rattle.rules.proofs.Best.{greatest_meets, lowest_meets}
+use Rattle.history.specs.declared.past.Past.{Past}
+use Rattle.history.specs.declared.walk.Taken.{Taken}
+use Rattle.history.specs.Pasts.{Indexed, IsTaken}
 use Rattle.history.specs.Logs.{record_at, hist}
 use Rattle.history.proofs.Logs.{hist_length}
 use Rattle.history.proofs.Cells.{cell_at}
@@ -25,9 +28,9 @@ use Rattle.history.specs.Places.{counts}
 use Rattle.history.specs.Weighing.{greater_of, lower_of}
 use Rattle.history.proofs.Queries.{greater_none, greater_keep, greater_take}
 use Rattle.descriptors.specs.Columns.{not_below, is_rising, counts_of, counts_after, DescriptorsIndexed, standing_bucket, put_entry, put}
-use Rattle.descriptors.specs.Answers.{at_place, greatest_up_to, above}
+use Rattle.descriptors.specs.Answers.{asks, at_place, up_to, greatest_up_to, above}
 use Rattle.descriptors.proofs.Roles.{in_standing}
-use Rattle.descriptors.proofs.Walks.{Greatest, Lowest, above_range, at_range}
+use Rattle.descriptors.proofs.Walks.{Greatest, Lowest, up_to_range, above_range, at_range}
 
 -- ---- the counts are below the mark
 
@@ -106,76 +109,73 @@ marked_go : (n : ℕ) (b : Bool) → n < 16384 → leb 16384 (n + cond b 16384 0
 marked_go n true l h = refl
 marked_go n false l h = absurd (omega (arith, leb-true 16384 (n + 0) h))
 
-module _ (cap : ℕ) (log work : List ℕ) (n k : ℕ) {b : ℕ} (l : k < n) (m : n ≤ cap) (s : cap ≤ 4096) (d : DescriptorsIndexed cap (hist log n) work)
-    (i : In (standing_bucket cap) b log k) where
-  rising_at : leb 16384 (get_or work (counts * cap + k) 0) ≡ true → is_rising (record_at log k) (hist log k) ≡ true
+module _ {p : Past} (d : Indexed DescriptorsIndexed p) {y : Taken} (t : IsTaken p y) {b : ℕ} (i : In (standing_bucket p.cap) b p.log.now (y.number - 1)) where
+  rising_at : leb 16384 (get_or p.work.now (counts * p.cap + (y.number - 1)) 0) ≡ true
+      → is_rising (record_at p.log.now (y.number - 1)) (hist p.log.now (y.number - 1)) ≡ true
   rising_at h =
-      marked_go (counts_of (record_at log k ∷ hist log k)) (is_rising (record_at log k) (hist log k))
-      (omega (arith, counts_bound (record_at log k ∷ hist log k), hist_length log k))
-      (ap (leb 16384) (sym (d.counts.word k (omega arith) ∙ cell_at counts_after log n k l)) ∙ h)
+      let x = record_at p.log.now (y.number - 1) in
+      let older = hist p.log.now (y.number - 1) in
+      let w : get_or p.work.now (counts * p.cap + (y.number - 1)) 0 ≡ counts_after x older =
+      d.counts.word (y.number - 1) (omega (arith, t.some, t.within, p.within))
+      ∙ cell_at counts_after p.log.now p.count (y.number - 1) (omega (arith, t.some, t.within)) in
+      marked_go (counts_of (x ∷ older)) (is_rising x older)
+      (omega (arith, counts_bound (x ∷ older), hist_length p.log.now (y.number - 1), t.some, t.within, p.within, p.small))
+      (ap (leb 16384) (sym w) ∙ h)
 
   -- its value is above every earlier one of its range
-  older_below : leb 16384 (get_or work (counts * cap + k) 0) ≡ true → any_of (not_below (put_entry log k)) (standing (hist log k)) ≡ false
+  older_below : leb 16384 (get_or p.work.now (counts * p.cap + (y.number - 1)) 0) ≡ true
+      → any_of (not_below (put_entry y)) (standing (hist p.log.now (y.number - 1))) ≡ false
   unfolding is_rising
   older_below h =
-      let r : holds (λ p. not (any_of (not_below p) (standing (hist log k)))) (Some (put_entry log k)) ≡ true =
-      rw (in_standing cap log k i) at (rising_at h) in
-      not-true (any_of (not_below (put_entry log k)) (standing (hist log k))) r
+      let r : holds (λ v. not (any_of (not_below v) (standing (hist p.log.now (y.number - 1))))) (Some (put_entry y)) ≡ true =
+      rw (in_standing p.cap t i) at (rising_at h) in
+      not-true (any_of (not_below (put_entry y)) (standing (hist p.log.now (y.number - 1)))) r
 
   -- the walk to the greatest stops at one that passes
-  pub greatest_stop : (range : ℕ) (p : Entry → Bool) (best best' : ℕ) {x : Option Entry} {t u : Bool} → ((v : Entry) → p v ≡ true → v.range ≡ range)
-      → t ≡ p (put_entry log k) → u ≡ leb 16384 (get_or work (counts * cap + k) 0) → t && u ≡ true
-      → put log best' ≡ cond t (greater_of (λ v. v.index) (put log best) (Some (put_entry log k))) (put log best)
-      → x ≡ Greatest cap range log p best' k → put log best' ≡ x
-  greatest_stop range p best best' {x} {t} {u} r e f h q w =
-      let a : t ≡ true = and_left t u h in
-      let c : (put_entry log k).range ≡ range = r (put_entry log k) (sym e ∙ a) in
-      let z : put log best' ≡ greater_of (λ v. v.index) (put log best) (Some (put_entry log k)) = q ∙ rw a in
-      sym (w ∙ ap (λ (o : Option Entry). greater_of (λ v. v.index) o (greatest_of (λ v. v.index) p (standing (hist log k)))) z
-      ∙ greatest_kept (put_entry log k) (standing (hist log k)) (older_below (sym f ∙ and_right t u h)) p (λ v y. r v y ∙ sym c) (put log best)
-      ∙ sym z)
+  pub greatest_stop : (range : ℕ) (index generation : Option ℕ) (best best' : Option Taken) {x : Option Entry}
+      → up_to range index generation (put_entry y) ≡ true → leb 16384 (get_or p.work.now (counts * p.cap + (y.number - 1)) 0) ≡ true
+      → put best' ≡ greater_of (λ v. v.index) (put best) (Some (put_entry y)) → x ≡ Greatest p range index generation best' (y.number - 1) → put best' ≡ x
+  greatest_stop range index generation best best' e h q w =
+      let c : (put_entry y).range ≡ range = up_to_range range index generation (put_entry y) e in
+      let test = up_to range index generation in
+      let vs = standing (hist p.log.now (y.number - 1)) in
+      sym (w ∙ ap (λ (o : Option Entry). greater_of (λ v. v.index) o (greatest_of (λ v. v.index) test vs)) q
+      ∙ greatest_kept (put_entry y) vs (older_below h) test (λ v u. up_to_range range index generation v u ∙ sym c) (put best)
+      ∙ sym q)
 
   -- where it is of the range and not above the index, everything earlier of the range is below the index
-  module _ (range index : ℕ) {t : Bool} (e : t ≡ leb 16384 (get_or work (counts * cap + k) 0) && eqb (record_at log k).a range && leb (record_at log k).b index)
-      (h : t ≡ true) where
-    all_hold : leb 16384 (get_or work (counts * cap + k) 0) && eqb (record_at log k).a range && leb (record_at log k).b index ≡ true
-    all_hold = sym e ∙ h
+  module _ (range index : ℕ) (h : leb 16384 (get_or p.work.now (counts * p.cap + (y.number - 1)) 0) && eqb (put_entry y).range range && leb (put_entry y).index index ≡ true) where
+    first_two : leb 16384 (get_or p.work.now (counts * p.cap + (y.number - 1)) 0) && eqb (put_entry y).range range ≡ true
+    first_two = and_left _ (leb (put_entry y).index index) h
 
-    first_two : leb 16384 (get_or work (counts * cap + k) 0) && eqb (record_at log k).a range ≡ true
-    first_two = and_left (leb 16384 (get_or work (counts * cap + k) 0) && eqb (record_at log k).a range) (leb (record_at log k).b index) all_hold
+    stop_older : any_of (not_below (put_entry y)) (standing (hist p.log.now (y.number - 1))) ≡ false
+    stop_older = older_below (and_left _ (eqb (put_entry y).range range) first_two)
 
-    stop_older : any_of (not_below (put_entry log k)) (standing (hist log k)) ≡ false
-    stop_older = older_below (and_left (leb 16384 (get_or work (counts * cap + k) 0)) (eqb (record_at log k).a range) first_two)
-
-    stop_range : (record_at log k).a ≡ range
-    stop_range = eqb-true _ _ (and_right (leb 16384 (get_or work (counts * cap + k) 0)) (eqb (record_at log k).a range) first_two)
-
-    stop_index : (record_at log k).b ≤ index
-    stop_index = leb-true _ _ (and_right (leb 16384 (get_or work (counts * cap + k) 0) && eqb (record_at log k).a range)
-        (leb (record_at log k).b index) all_hold)
-
-    not_below_lem : (v : Entry) → v.range ≡ range → index ≤ v.index → not_below (put_entry log k) v ≡ true
+    not_below_lem : (v : Entry) → v.range ≡ range → index ≤ v.index → not_below (put_entry y) v ≡ true
     not_below_lem v r l =
-        both (eq-eqb v.range (record_at log k).a (r ∙ sym stop_range)) (le-leb (record_at log k).b v.index (omega (arith, stop_index, l)))
+        let a : (put_entry y).range ≡ range = eqb-true _ _ (and_right (leb 16384 (get_or p.work.now (counts * p.cap + (y.number - 1)) 0)) _ first_two) in
+        let m : (put_entry y).index ≤ index = leb-true _ _
+        (and_right (leb 16384 (get_or p.work.now (counts * p.cap + (y.number - 1)) 0) && eqb (put_entry y).range range) _ h) in
+        both (eq-eqb v.range (put_entry y).range (r ∙ sym a)) (le-leb (put_entry y).index v.index (omega arith))
 
-    pub place_stop : latest_of (at_place range index) (standing (hist log k)) ≡ None
+    pub place_stop : latest_of (at_place range index) (standing (hist p.log.now (y.number - 1))) ≡ None
     place_stop =
-        latest_none (put_entry log k) (standing (hist log k)) stop_older (at_place range index)
-        (λ v y.
-        let q : index ≡ v.index = eqb-true _ _ (and_right (eqb range v.range) (eqb index v.index) y) in
-        not_below_lem v (at_range range index v y) (omega arith))
+        latest_none (put_entry y) (standing (hist p.log.now (y.number - 1))) stop_older (at_place range index)
+        (λ v u.
+        let q : index ≡ v.index = eqb-true _ _ (and_right (eqb range v.range) (eqb index v.index) u) in
+        not_below_lem v (at_range range index v u) (omega arith))
 
-    pub lowest_stop : (any : Bool) (generation best : ℕ) {x : Option Entry} → x ≡ Lowest cap range log (above range index any generation) best k
-        → put log best ≡ x
-    lowest_stop any generation best w =
-        sym (w ∙ ap (lower_of (λ v. v.index) (put log best))
-        (lowest_none (put_entry log k) (standing (hist log k)) stop_older (above range index any generation)
-        (λ v y.
+    pub lowest_stop : (generation : Option ℕ) (best : Option Taken) {x : Option Entry} → x ≡ Lowest p range index generation best (y.number - 1)
+        → put best ≡ x
+    lowest_stop generation best w =
+        sym (w ∙ ap (lower_of (λ v. v.index) (put best))
+        (lowest_none (put_entry y) (standing (hist p.log.now (y.number - 1))) stop_older (above range index generation)
+        (λ v u.
         let q : index < v.index = ltb-true _ _
         (and_right (eqb v.range range) (ltb index v.index)
-        (and_left (eqb v.range range && ltb index v.index) (any || eqb v.held.generation generation) y)) in
-        not_below_lem v (above_range range index any generation v y) (omega arith)))
-        ∙ lower_last (put log best))
+        (and_left (eqb v.range range && ltb index v.index) (asks (λ wanted. eqb v.held.generation wanted) generation) u)) in
+        not_below_lem v (above_range range index generation v u) (omega arith)))
+        ∙ lower_last (put best))
 
 -- ---- when the mark is set: the greatest of the range is below
 
@@ -211,7 +211,7 @@ module _ (m : ℕ) where
   reach_step true v o e = reach_go v o ∙ rw e
   reach_step false v o e = e
 
-pub top_reaches : (p : Entry) (vs : List Entry) → holds (λ v. leb p.index v.index) (greatest_up_to p.range true 0 true 0 vs) ≡ any_of (not_below p) vs
+pub top_reaches : (p : Entry) (vs : List Entry) → holds (λ v. leb p.index v.index) (greatest_up_to p.range None None vs) ≡ any_of (not_below p) vs
 unfolding greatest_of any_of
 top_reaches p [] = refl
-top_reaches p (v ∷ vs) = reach_step p.index (eqb v.range p.range) v (greatest_up_to p.range true 0 true 0 vs) (top_reaches p vs)
+top_reaches p (v ∷ vs) = reach_step p.index (eqb v.range p.range) v (greatest_up_to p.range None None vs) (top_reaches p vs)

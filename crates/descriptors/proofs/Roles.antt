@@ -1,32 +1,46 @@
--- What a record of the log puts and states: its value, at the index that its kind says. Assumes nothing.
+-- What a record taken puts and states: its value, at the index that its kind says. Assumes nothing.
 use mathlib.Core.Path.{◌≡◌, refl, sym, ap, ◌∙◌}
 use mathlib.Core.Bool.{Bool, true, false, cond}
-use mathlib.Core.List.{List}
 use Rattle.std.specs.Prelude.{Option, None, Some}
-use Prim.Native.Nat.{ℕ, suc}
-use Rattle.record.specs.Records.{TraceRecord}
+use Prim.Native.Nat.{ℕ, suc, ◌-◌}
+use native.Mathlib.Omega.{arith}
+use lib.ListN.{length}
+use Rattle.record.specs.Records.{TraceRecord, decode}
 use Rattle.record.proofs.Booleans.{none_some}
 use Rattle.rules.specs.History.{History, given, any_of}
 use Rattle.rules.specs.Descriptors.{Entry, held_by, tells_put, tells_stated, same_place, standing}
 use Rattle.history.specs.Logs.{record_at, hist}
-use Rattle.history.proofs.Logs.{hist_length}
+use Rattle.history.specs.Pasts.{IsTaken}
+use Rattle.history.specs.declared.past.Past.{Past}
+use Rattle.history.specs.declared.walk.Taken.{Taken}
+use Rattle.history.proofs.Logs.{record_bytes, hist_length}
+use Rattle.history.proofs.Chains.{In}
 use Rattle.rules.proofs.Roles.{puts_entry, states_entry}
 use Rattle.rules.proofs.Tellings.{fresh}
 use Rattle.history.specs.Buckets.{bucket_by, bucket_by_two}
 use Rattle.descriptors.specs.Columns.{new_value, first_value, same_generation, standing_bucket, stated_bucket, generation_bucket, put_entry, stated_index, stated_entry}
 
-module _ (log : List ℕ) (k : ℕ) where
-  put_is : {v : Entry} → tells_put (record_at log k) (hist log k) ≡ Some v → v ≡ put_entry log k
-  put_is e =
-      puts_entry (record_at log k) (hist log k) e
-      ∙ ap (λ (n : ℕ). record { range = (record_at log k).a; index = (record_at log k).b; held = held_by (record_at log k); number = suc n })
-      (hist_length log k)
+-- a record taken is that of its place, and its number is the one after those before it
+module _ {p : Past} {y : Taken} (t : IsTaken p y) where
+  pub record_taken : record_at p.log.now (y.number - 1) ≡ decode y.record.now
+  record_taken = sym (record_bytes p.log.now (y.number - 1) t.bytes)
 
-  stated_is : {v : Entry} → tells_stated (record_at log k) (hist log k) ≡ Some v → v ≡ stated_entry log k
+  number_taken : suc (length (hist p.log.now (y.number - 1))) ≡ y.number
+  number_taken = omega (arith, t.some, hist_length p.log.now (y.number - 1))
+
+  pub put_is : {v : Entry} → tells_put (record_at p.log.now (y.number - 1)) (hist p.log.now (y.number - 1)) ≡ Some v → v ≡ put_entry y
+  put_is e =
+      puts_entry (record_at p.log.now (y.number - 1)) (hist p.log.now (y.number - 1)) e
+      ∙ ap (λ (x : TraceRecord). record { range = x.a; index = x.b; held = held_by x; number = suc (length (hist p.log.now (y.number - 1))) }) record_taken
+      ∙ ap (λ (n : ℕ). record { range = (decode y.record.now).a; index = (decode y.record.now).b; held = held_by (decode y.record.now); number = n }) number_taken
+
+  stated_is : {v : Entry} → tells_stated (record_at p.log.now (y.number - 1)) (hist p.log.now (y.number - 1)) ≡ Some v → v ≡ stated_entry y
   stated_is e =
-      states_entry (record_at log k) (hist log k) e
-      ∙ ap (λ (n : ℕ). record { range = (record_at log k).a; index = stated_index (record_at log k); held = held_by (record_at log k); number = suc n })
-      (hist_length log k)
+      states_entry (record_at p.log.now (y.number - 1)) (hist p.log.now (y.number - 1)) e
+      ∙ ap (λ (x : TraceRecord). record { range = x.a; index = stated_index x; held = held_by x; number = suc (length (hist p.log.now (y.number - 1))) }) record_taken
+      ∙ ap
+      (λ (n : ℕ). record { range = (decode y.record.now).a; index = stated_index (decode y.record.now); held = held_by (decode y.record.now); number = n })
+      number_taken
 
 -- what a new value is: a put at whose place none stood
 module _ {A : Type 0} where
@@ -60,21 +74,26 @@ bucket_go : (o : Option Entry) (f : Entry → ℕ) (b : ℕ) → given (λ v. So
 bucket_go None f b e = none_some e
 bucket_go (Some v) f b e = (v, refl)
 
-module _ (cap : ℕ) {b : ℕ} (log : List ℕ) (k : ℕ) where
-  pub in_standing : standing_bucket cap (record_at log k) (hist log k) ≡ Some b → new_value (record_at log k) (hist log k) ≡ Some (put_entry log k)
+module _ (cap : ℕ) {b : ℕ} {p : Past} {y : Taken} (t : IsTaken p y) where
+  pub in_standing : In (standing_bucket cap) b p.log.now (y.number - 1)
+      → new_value (record_at p.log.now (y.number - 1)) (hist p.log.now (y.number - 1)) ≡ Some (put_entry y)
   unfolding standing_bucket
   in_standing e =
-      let w = bucket_go (new_value (record_at log k) (hist log k)) (λ v. bucket_by cap v.range) b e in
-      w.1 ∙ ap Some (put_is log k (new_puts (record_at log k) (hist log k) w.1))
+      let w = bucket_go (new_value (record_at p.log.now (y.number - 1)) (hist p.log.now (y.number - 1))) (λ v. bucket_by cap v.range) b e in
+      w.1 ∙ ap Some (put_is t (new_puts (record_at p.log.now (y.number - 1)) (hist p.log.now (y.number - 1)) w.1))
 
-  pub in_stated : stated_bucket cap (record_at log k) (hist log k) ≡ Some b → tells_stated (record_at log k) (hist log k) ≡ Some (stated_entry log k)
+  pub in_stated : In (stated_bucket cap) b p.log.now (y.number - 1)
+      → tells_stated (record_at p.log.now (y.number - 1)) (hist p.log.now (y.number - 1)) ≡ Some (stated_entry y)
   unfolding stated_bucket
   in_stated e =
-      let w = bucket_go (tells_stated (record_at log k) (hist log k)) (λ v. bucket_by cap v.range) b e in
-      w.1 ∙ ap Some (stated_is log k w.1)
+      let w = bucket_go (tells_stated (record_at p.log.now (y.number - 1)) (hist p.log.now (y.number - 1))) (λ v. bucket_by cap v.range) b e in
+      w.1 ∙ ap Some (stated_is t w.1)
 
-  pub in_generation : generation_bucket cap (record_at log k) (hist log k) ≡ Some b → first_value (record_at log k) (hist log k) ≡ Some (put_entry log k)
+  pub in_generation : In (generation_bucket cap) b p.log.now (y.number - 1)
+      → first_value (record_at p.log.now (y.number - 1)) (hist p.log.now (y.number - 1)) ≡ Some (put_entry y)
   unfolding generation_bucket
   in_generation e =
-      let w = bucket_go (first_value (record_at log k) (hist log k)) (λ v. bucket_by_two cap v.range v.held.generation) b e in
-      w.1 ∙ ap Some (put_is log k (new_puts (record_at log k) (hist log k) (first_new (record_at log k) (hist log k) w.1)))
+      let x = record_at p.log.now (y.number - 1) in
+      let h = hist p.log.now (y.number - 1) in
+      let w = bucket_go (first_value x h) (λ v. bucket_by_two cap v.range v.held.generation) b e in
+      w.1 ∙ ap Some (put_is t (new_puts x h (first_new x h w.1)))

@@ -3,39 +3,36 @@
 use mathlib.Core.Path.{◌≡◌, refl, sym, ap, ◌∙◌}
 use mathlib.Core.Bool.{Bool, true, false, cond, ◌&&◌, ◌||◌}
 use mathlib.Core.List.{List, [], ◌∷◌}
-use Rattle.std.specs.Prelude.{Option, None, Some}
+use Rattle.std.specs.Prelude.{Option, None, Some, option_map}
 use mathlib.Core.Logic.{⊎_elim}
-use Prim.Native.Nat.{ℕ, zero, suc, ◌+◌, ◌-◌, ◌≤◌, ◌<◌}
-use native.Mathlib.Omega.{arith}
-use native.Mathlib.Numerals.{add-one}
+use Prim.Native.Nat.{ℕ, suc, ◌-◌}
 use lib.Dec.{eqb, ltb, leb}
 use borrow.Author.Tests.{eqb-true}
 use Rattle.record.specs.Named.{Node}
 use Rattle.record.specs.Records.{TraceRecord, decode}
 use Rattle.record.proofs.Booleans.{decide, never, and_left, and_right}
 use Rattle.rules.specs.History.{History, is_kind, is_by, by_node, any_of, latest_of, earliest_of, greatest_of, lowest_of}
-use Rattle.rules.specs.Descriptors.{Entry, held_by, tells_applied, applied, tells_put, same_place, standing, first_at_generation_in, first_at_generation}
-use Rattle.history.specs.Logs.{bytes_at, record_at, hist}
-use Rattle.history.proofs.Logs.{record_bytes}
-use Rattle.history.proofs.Chains.{In}
+use Rattle.rules.specs.Descriptors.{Entry, tells_applied, applied, tells_put, same_place, standing, first_at_generation_in, first_at_generation}
+use Rattle.history.specs.declared.past.Past.{Past}
+use Rattle.history.specs.declared.walk.Chain.{Chain}
+use Rattle.history.specs.declared.walk.Taken.{Taken}
+use Rattle.history.specs.Pasts.{taken, Indexed, IsTaken, Begins, Goes}
+use Rattle.history.specs.Places.{standing_heads, standing_links}
+use Rattle.history.specs.Logs.{record_at, hist}
+use Rattle.history.proofs.Chains.{In, Stands}
+use Rattle.history.proofs.Pasts.{OnPast, taken_on, AtTurn, along_first, along_turn, along_next}
+use Rattle.history.proofs.Mixing.{one_below}
 use Rattle.rules.proofs.Members.{any_of_some, any_of_none}
 use Rattle.rules.proofs.Placed.{earliest_none, earliest_passing}
 use Rattle.rules.proofs.Skips.{told_hit, told_skip, latest_of_hit, earliest_of_kept, earliest_of_hit}
 use Rattle.rules.proofs.Tellings.{fresh, when_holds, firsts_afresh}
 use Rattle.history.specs.Weighing.{greater_of, lower_of}
-use Rattle.history.proofs.Queries.{Ignores, ignores_then, latest_ignores, earliest_ignores, greatest_ignores, lowest_ignores, greater_take, greater_keep, lower_take, lower_keep, greatest_turns, lowest_turns, greatest_end, lowest_end}
+use Rattle.history.proofs.Queries.{Ignores, ignores_then, Turns, latest_ignores, earliest_ignores, greatest_ignores, lowest_ignores, greater_none, lower_none, greatest_turns, lowest_turns, greatest_end, lowest_end}
 use Rattle.history.proofs.Walks.{look_less, look_outside, latest_outside, latest_found, latest_passed, latest_end, firsts_outside, firsts_found, firsts_end}
 use Rattle.history.specs.Buckets.{bucket_by, bucket_by_two}
-use Rattle.descriptors.specs.Columns.{new_value, first_value, same_generation, applied_at, applied_bucket, standing_bucket, generation_bucket, put_entry, stated_entry, put, statement}
-use Rattle.descriptors.specs.Answers.{up_to, above, at_place}
-use Rattle.descriptors.proofs.Roles.{new_fresh, first_new, first_free, in_standing, in_generation}
-
--- a number one above a place
-put_suc : (log : List ℕ) (i : ℕ) → put log (i + 1) ≡ Some (put_entry log i)
-put_suc log i = ap (put log) (add-one i)
-
-pub statement_suc : (log : List ℕ) (i : ℕ) → statement log (i + 1) ≡ Some (stated_entry log i)
-statement_suc log i = ap (statement log) (add-one i)
+use Rattle.descriptors.specs.Columns.{DescriptorsIndexed, new_value, first_value, same_generation, applied_at, applied_bucket, standing_bucket, generation_bucket, put_entry, put}
+use Rattle.descriptors.specs.Answers.{asks, up_to, above, at_place, of_generation}
+use Rattle.descriptors.proofs.Roles.{record_taken, put_is, new_puts, new_fresh, first_new, first_free, in_standing, in_generation}
 
 -- ---- the chain of standing values
 
@@ -52,198 +49,129 @@ module _ (cap range : ℕ) (log : List ℕ) where
   standing_skip q r =
       firsts_outside q same_place tells_put (standing_bucket cap) (bucket_by cap range) log (λ x h v e t. standing_bucket_lem cap range x h v e (r v t))
 
-  standing_hit : {i b : ℕ} → 0 < i → In (standing_bucket cap) b log (i - 1) → standing (hist log i) ≡ put_entry log (i - 1) ∷ standing (hist log (i - 1))
+module _ (cap : ℕ) {p : Past} {b : ℕ} {y : Taken} (t : IsTaken p y) (m : In (standing_bucket cap) b p.log.now (y.number - 1)) where
+  standing_hit : standing (hist p.log.now y.number) ≡ put_entry y ∷ standing (hist p.log.now (y.number - 1))
   unfolding standing
-  standing_hit {i} l e =
-      firsts_found same_place tells_put log l (sym (new_fresh (record_at log (i - 1)) (hist log (i - 1))) ∙ in_standing cap log (i - 1) e)
+  standing_hit =
+      firsts_found same_place tells_put p.log.now t.some
+      (sym (new_fresh (record_at p.log.now (y.number - 1)) (hist p.log.now (y.number - 1))) ∙ in_standing cap t m)
 
 standing_end : (log : List ℕ) {i : ℕ} → i ≡ 0 → standing (hist log i) ≡ []
 unfolding standing
 standing_end log e = firsts_end same_place tells_put log e
 
--- a turn of the walk to the greatest, and its end
-module _ (cap range : ℕ) (log : List ℕ) (p : Entry → Bool) (best : ℕ) where
-  abbrev pub Greatest : ℕ → Option Entry
-  Greatest n = greater_of (λ v. v.index) (put log best) (greatest_of (λ v. v.index) p (standing (hist log n)))
+-- ---- a walk that weighs the values that pass, from the newest on
 
-  abbrev pub Lowest : ℕ → Option Entry
-  Lowest n = lower_of (λ v. v.index) (put log best) (lowest_of (λ v. v.index) p (standing (hist log n)))
+-- a question to the standing values of the first n records, the best so far beside it
+abbrev pub Beside : (Option Entry → Option Entry → Option Entry) → (List Entry → Option Entry) → List ℕ → Option Entry → ℕ → Option Entry
+Beside join Q log best n = join best (Q (standing (hist log n)))
 
-module _ (cap range : ℕ) (log : List ℕ) (p : Entry → Bool) (r : (v : Entry) → p v ≡ true → v.range ≡ range) where
-  pub greatest_skip : (best k : ℕ) → (In (standing_bucket cap) (bucket_by cap range) log k → ⊥)
-      → Greatest cap range log p best (suc k) ≡ Greatest cap range log p best k
-  greatest_skip best = standing_skip cap range log (ignores_then (greater_of (λ v. v.index) (put log best)) (greatest_ignores p (λ v. v.index))) r
+-- a question that weighs: none before the first, each that passes against the best so far, no other counts
+pub record Weighs (join : Option Entry → Option Entry → Option Entry) (test : Entry → Bool) (Q : List Entry → Option Entry) : Type 0 where
+  pub first : (r : Option Entry) → join None r ≡ r
+  pub turns : Turns join (λ best v. cond (test v) (join best (Some v)) best) Q
+  pub ignores : Ignores test Q
+  pub last : (best : Option Entry) → join best (Q []) ≡ best
 
-  pub lowest_skip : (best k : ℕ) → (In (standing_bucket cap) (bucket_by cap range) log k → ⊥)
-      → Lowest cap range log p best (suc k) ≡ Lowest cap range log p best k
-  lowest_skip best = standing_skip cap range log (ignores_then (lower_of (λ v. v.index) (put log best)) (lowest_ignores p (λ v. v.index))) r
+module _ {join : Option Entry → Option Entry → Option Entry} {test : Entry → Bool} {Q : List Entry → Option Entry} (w : Weighs join test Q)
+    {range : ℕ} (within : (v : Entry) → test v ≡ true → v.range ≡ range) (p : Past) (d : Indexed DescriptorsIndexed p) where
+  beside_skip : (best : Option Entry) (k : ℕ) → (In (standing_bucket p.cap) (bucket_by p.cap range) p.log.now k → ⊥)
+      → Beside join Q p.log.now best (suc k) ≡ Beside join Q p.log.now best k
+  beside_skip best = standing_skip p.cap range p.log.now (ignores_then (join best) w.ignores) within
 
-module _ (cap range : ℕ) (log : List ℕ) (p : Entry → Bool) where
-  greatest_go : (best best' : ℕ) (v : Entry) (vs : List Entry) {t : Bool} → t ≡ p v
-      → put log best' ≡ cond t (greater_of (λ v. v.index) (put log best) (Some v)) (put log best)
-      → greater_of (λ v. v.index) (put log best) (greatest_of (λ v. v.index) p (v ∷ vs))
-      ≡ greater_of (λ v. v.index) (put log best') (greatest_of (λ v. v.index) p vs)
-  greatest_go best best' v vs e q =
-      (greatest_turns (λ v. v.index) p).turn (put log best) v vs
-      ∙ ap (λ (o : Option Entry). greater_of (λ v. v.index) o (greatest_of (λ v. v.index) p vs))
-      (sym (q ∙ ap (λ (b : Bool). cond b (greater_of (λ v. v.index) (put log best) (Some v)) (put log best)) e))
+  pub weighs_first : {s : Chain} → Begins p standing_heads standing_links (bucket_by p.cap range) s
+      → Stands (standing_bucket p.cap) (bucket_by p.cap range) p.log.now (Beside join Q p.log.now None) (Q (standing (taken p))) s.next
+  weighs_first z =
+      along_first (Beside join Q p.log.now None) (beside_skip None) d.standing refl (one_below range p.positive)
+      (sym (w.first (Q (standing (taken p))))) z
 
-  pub greatest_next : (best best' i : ℕ) {b : ℕ} {x : Option Entry} {t : Bool} → 0 < i → In (standing_bucket cap) b log (i - 1)
-      → x ≡ Greatest cap range log p best i → t ≡ p (put_entry log (i - 1))
-      → put log best' ≡ cond t (greater_of (λ v. v.index) (put log best) (Some (put_entry log (i - 1)))) (put log best)
-      → x ≡ Greatest cap range log p best' (i - 1)
-  greatest_next best best' i l m e q w =
-      e ∙ ap (λ (vs : List Entry). greater_of (λ v. v.index) (put log best) (greatest_of (λ v. v.index) p vs)) (standing_hit cap range log l m)
-      ∙ greatest_go best best' (put_entry log (i - 1)) (standing (hist log (i - 1))) q w
+  module _ {s t : Chain} {y : Taken} {x best : Option Entry} (o : OnPast p standing_links s) (e : Goes s y t)
+      (a : Stands (standing_bucket p.cap) (bucket_by p.cap range) p.log.now (Beside join Q p.log.now best) x s.next) where
+    weighs_turn : x ≡ join (cond (test (put_entry y)) (join best (Some (put_entry y))) best) (Q (standing (hist p.log.now (y.number - 1))))
+    weighs_turn =
+        (along_turn e a).same
+        ∙ ap (λ (vs : List Entry). join best (Q vs)) (standing_hit p.cap (taken_on o e) (along_turn e a).here)
+        ∙ w.turns.turn best (put_entry y) (standing (hist p.log.now (y.number - 1)))
 
-  pub greatest_done : (best i : ℕ) {x : Option Entry} → i ≡ 0 → x ≡ Greatest cap range log p best i → put log best ≡ x
-  greatest_done best i z e =
-      sym (e ∙ ap (λ (vs : List Entry). greater_of (λ v. v.index) (put log best) (greatest_of (λ v. v.index) p vs)) (standing_end log z)
-      ∙ greatest_end (λ v. v.index) p (put log best))
+    -- one that passes is weighed against the best so far
+    pub weighs_taken : {best' : Option Entry} → test (put_entry y) ≡ true → best' ≡ join best (Some (put_entry y))
+        → x ≡ Beside join Q p.log.now best' (y.number - 1)
+    weighs_taken q u = weighs_turn ∙ rw (q, u)
 
-  lowest_go : (best best' : ℕ) (v : Entry) (vs : List Entry) {t : Bool} → t ≡ p v
-      → put log best' ≡ cond t (lower_of (λ v. v.index) (put log best) (Some v)) (put log best)
-      → lower_of (λ v. v.index) (put log best) (lowest_of (λ v. v.index) p (v ∷ vs))
-      ≡ lower_of (λ v. v.index) (put log best') (lowest_of (λ v. v.index) p vs)
-  lowest_go best best' v vs e q =
-      (lowest_turns (λ v. v.index) p).turn (put log best) v vs
-      ∙ ap (λ (o : Option Entry). lower_of (λ v. v.index) o (lowest_of (λ v. v.index) p vs))
-      (sym (q ∙ ap (λ (b : Bool). cond b (lower_of (λ v. v.index) (put log best) (Some v)) (put log best)) e))
+    pub weighs_passed : test (put_entry y) ≡ false → x ≡ Beside join Q p.log.now best (y.number - 1)
+    weighs_passed q = weighs_turn ∙ rw q
 
-  pub lowest_next : (best best' i : ℕ) {b : ℕ} {x : Option Entry} {t : Bool} → 0 < i → In (standing_bucket cap) b log (i - 1)
-      → x ≡ Lowest cap range log p best i → t ≡ p (put_entry log (i - 1))
-      → put log best' ≡ cond t (lower_of (λ v. v.index) (put log best) (Some (put_entry log (i - 1)))) (put log best)
-      → x ≡ Lowest cap range log p best' (i - 1)
-  lowest_next best best' i l m e q w =
-      e ∙ ap (λ (vs : List Entry). lower_of (λ v. v.index) (put log best) (lowest_of (λ v. v.index) p vs)) (standing_hit cap range log l m)
-      ∙ lowest_go best best' (put_entry log (i - 1)) (standing (hist log (i - 1))) q w
+    pub weighs_next : {best' : Option Entry} → x ≡ Beside join Q p.log.now best' (y.number - 1)
+        → Stands (standing_bucket p.cap) (bucket_by p.cap range) p.log.now (Beside join Q p.log.now best') x t.next
+    weighs_next {best' = best'} q = along_next (Beside join Q p.log.now best') (beside_skip best') d.standing o e a q
 
-  pub lowest_done : (best i : ℕ) {x : Option Entry} → i ≡ 0 → x ≡ Lowest cap range log p best i → put log best ≡ x
-  lowest_done best i z e =
-      sym (e ∙ ap (λ (vs : List Entry). lower_of (λ v. v.index) (put log best) (lowest_of (λ v. v.index) p vs)) (standing_end log z)
-      ∙ lowest_end (λ v. v.index) p (put log best))
+  pub weighs_done : {x best : Option Entry} {i : ℕ} → i ≡ 0
+      → Stands (standing_bucket p.cap) (bucket_by p.cap range) p.log.now (Beside join Q p.log.now best) x i → best ≡ x
+  weighs_done {best = best} z a = sym (a.same ∙ ap (λ (vs : List Entry). join best (Q vs)) (standing_end p.log.now z) ∙ w.last best)
 
--- ---- the number of the better of two
+-- the two walks that weigh: to the greatest index, and to the lowest
+module _ (p : Past) (range : ℕ) (index generation : Option ℕ) where
+  abbrev pub Greatest : Option Taken → ℕ → Option Entry
+  Greatest best = Beside (greater_of (λ v. v.index)) (greatest_of (λ v. v.index) (up_to range index generation)) p.log.now (put best)
 
-at_next : (log : List ℕ) (i : ℕ) → (record_at log (i + 1 - 1)).b ≡ (record_at log i).b
-at_next log i = let e : i + 1 - 1 ≡ i = omega arith in ap (λ (n : ℕ). (record_at log n).b) e
+module _ (p : Past) (range index : ℕ) (generation : Option ℕ) where
+  abbrev pub Lowest : Option Taken → ℕ → Option Entry
+  Lowest best = Beside (lower_of (λ v. v.index)) (lowest_of (λ v. v.index) (above range index generation)) p.log.now (put best)
 
-at_suc : (log : List ℕ) (k : ℕ) → (record_at log (suc k - 1)).b ≡ (record_at log k).b
-at_suc log k = let e : suc k - 1 ≡ k = omega arith in ap (λ (n : ℕ). (record_at log n).b) e
+module _ (test : Entry → Bool) where
+  pub greatest_weighs : Weighs (greater_of (λ v. v.index)) test (greatest_of (λ v. v.index) test)
+  greatest_weighs = record {
+    first = greater_none (λ v. v.index);
+    turns = greatest_turns (λ v. v.index) test;
+    ignores = greatest_ignores test (λ v. v.index);
+    last = greatest_end (λ v. v.index) test;
+  }
 
-pub weigh_first : (log : List ℕ) (best i : ℕ) (passes : Bool) (f : Option Entry → Option Entry → Option Entry)
-    → ((v : Entry) → f None (Some v) ≡ Some v) → passes ≡ true → best ≡ 0
-    → put log (i + 1) ≡ cond passes (f (put log best) (Some (put_entry log i))) (put log best)
-weigh_first log best i passes f g t z = put_suc log i ∙ rw (t, z) (sym (g (put_entry log i)))
+  pub lowest_weighs : Weighs (lower_of (λ v. v.index)) test (lowest_of (λ v. v.index) test)
+  lowest_weighs = record {
+    first = lower_none (λ v. v.index);
+    turns = lowest_turns (λ v. v.index) test;
+    ignores = lowest_ignores test (λ v. v.index);
+    last = lowest_end (λ v. v.index) test;
+  }
 
-module _ (log : List ℕ) (best i : ℕ) (passes : Bool) (t : passes ≡ true) (n : best ≡ 0 → ⊥) where
-  pub greater_takes : (record_at log (best - 1)).b ≤ (record_at log (i + 1 - 1)).b
-      → put log (i + 1) ≡ cond passes (greater_of (λ v. v.index) (put log best) (Some (put_entry log i))) (put log best)
-  greater_takes l = put_suc log i ∙ rw t (go best n l)
-    where
-      go : (b : ℕ) → (b ≡ 0 → ⊥) → (record_at log (b - 1)).b ≤ (record_at log (i + 1 - 1)).b
-          → Some (put_entry log i) ≡ greater_of (λ v. v.index) (put log b) (Some (put_entry log i))
-      go zero m w = absurd (m refl)
-      go (suc k) m w =
-          let q : (record_at log k).b ≤ (record_at log i).b = omega (arith, w, at_next log i, at_suc log k) in
-          sym (greater_take (λ v. v.index) {w = put_entry log k} {v = put_entry log i} q)
+-- ---- what passes is of the range
 
-  pub greater_keeps : (record_at log (i + 1 - 1)).b < (record_at log (best - 1)).b
-      → put log best ≡ cond passes (greater_of (λ v. v.index) (put log best) (Some (put_entry log i))) (put log best)
-  greater_keeps l = rw t (go best n l)
-    where
-      go : (b : ℕ) → (b ≡ 0 → ⊥) → (record_at log (i + 1 - 1)).b < (record_at log (b - 1)).b
-          → put log b ≡ greater_of (λ v. v.index) (put log b) (Some (put_entry log i))
-      go zero m w = absurd (m refl)
-      go (suc k) m w =
-          let q : (record_at log i).b < (record_at log k).b = omega (arith, w, at_next log i, at_suc log k) in
-          sym (greater_keep (λ v. v.index) {w = put_entry log k} {v = put_entry log i} q)
+pub up_to_range : (range : ℕ) (index generation : Option ℕ) (v : Entry) → up_to range index generation v ≡ true → v.range ≡ range
+up_to_range range index generation v h =
+    eqb-true _ _ (and_left (eqb v.range range) (asks (λ top. leb v.index top) index) (and_left _ (asks (λ wanted. eqb v.held.generation wanted) generation) h))
 
-  pub lower_takes : (record_at log (i + 1 - 1)).b ≤ (record_at log (best - 1)).b
-      → put log (i + 1) ≡ cond passes (lower_of (λ v. v.index) (put log best) (Some (put_entry log i))) (put log best)
-  lower_takes l = put_suc log i ∙ rw t (go best n l)
-    where
-      go : (b : ℕ) → (b ≡ 0 → ⊥) → (record_at log (i + 1 - 1)).b ≤ (record_at log (b - 1)).b
-          → Some (put_entry log i) ≡ lower_of (λ v. v.index) (put log b) (Some (put_entry log i))
-      go zero m w = absurd (m refl)
-      go (suc k) m w =
-          let q : (record_at log i).b ≤ (record_at log k).b = omega (arith, w, at_next log i, at_suc log k) in
-          sym (lower_take (λ v. v.index) {w = put_entry log k} {v = put_entry log i} q)
-
-  pub lower_keeps : (record_at log (best - 1)).b < (record_at log (i + 1 - 1)).b
-      → put log best ≡ cond passes (lower_of (λ v. v.index) (put log best) (Some (put_entry log i))) (put log best)
-  lower_keeps l = rw t (go best n l)
-    where
-      go : (b : ℕ) → (b ≡ 0 → ⊥) → (record_at log (b - 1)).b < (record_at log (i + 1 - 1)).b
-          → put log b ≡ lower_of (λ v. v.index) (put log b) (Some (put_entry log i))
-      go zero m w = absurd (m refl)
-      go (suc k) m w =
-          let q : (record_at log k).b < (record_at log i).b = omega (arith, w, at_next log i, at_suc log k) in
-          sym (lower_keep (λ v. v.index) {w = put_entry log k} {v = put_entry log i} q)
-
--- ---- the tests of the walks, read from the record at a place
-
-module _ (log : List ℕ) (i : ℕ) {bytes : List ℕ} (e : bytes ≡ bytes_at i log) where
-  pub up_to_is : (range : ℕ) (free : Bool) (index : ℕ) (any : Bool) (generation : ℕ) {t : Bool}
-      → t ≡ eqb (decode bytes).a range && (free || leb (decode bytes).b index) && (any || eqb (decode bytes).d generation)
-      → t ≡ up_to range free index any generation (put_entry log i)
-  unfolding held_by
-  up_to_is range free index any generation q = rw (record_bytes log i e) at q
-
-  pub above_is : (range index : ℕ) (any : Bool) (generation : ℕ) {t : Bool}
-      → t ≡ eqb (decode bytes).a range && ltb index (decode bytes).b && (any || eqb (decode bytes).d generation)
-      → t ≡ above range index any generation (put_entry log i)
-  unfolding held_by
-  above_is range index any generation q = rw (record_bytes log i e) at q
-
-  pub at_is : (range index : ℕ) {t : Bool} → t ≡ eqb range (decode bytes).a && eqb index (decode bytes).b → t ≡ at_place range index (put_entry log i)
-  at_is range index q = rw (record_bytes log i e) at q
-
-  pub of_is : (range generation : ℕ) {t : Bool} → t ≡ eqb (decode bytes).a range && eqb (decode bytes).d generation
-      → t ≡ eqb (put_entry log i).range range && eqb (put_entry log i).held.generation generation
-  unfolding held_by
-  of_is range generation q = rw (record_bytes log i e) at q
-
-pub up_to_range : (range : ℕ) (free : Bool) (index : ℕ) (any : Bool) (generation : ℕ) (v : Entry) → up_to range free index any generation v ≡ true
-    → v.range ≡ range
-up_to_range range free index any generation v h =
-    eqb-true _ _ (and_left (eqb v.range range) (free || leb v.index index) (and_left _ (any || eqb v.held.generation generation) h))
-
-pub above_range : (range index : ℕ) (any : Bool) (generation : ℕ) (v : Entry) → above range index any generation v ≡ true → v.range ≡ range
-above_range range index any generation v h =
-    eqb-true _ _ (and_left (eqb v.range range) (ltb index v.index) (and_left _ (any || eqb v.held.generation generation) h))
+pub above_range : (range index : ℕ) (generation : Option ℕ) (v : Entry) → above range index generation v ≡ true → v.range ≡ range
+above_range range index generation v h =
+    eqb-true _ _ (and_left (eqb v.range range) (ltb index v.index) (and_left _ (asks (λ wanted. eqb v.held.generation wanted) generation) h))
 
 pub at_range : (range index : ℕ) (v : Entry) → at_place range index v ≡ true → v.range ≡ range
 at_range range index v h = sym (eqb-true _ _ (and_left (eqb range v.range) (eqb index v.index) h))
 
 -- ---- the value at a place
 
-module _ (cap range index : ℕ) (log : List ℕ) where
-  pub place_skip : (k : ℕ) → (In (standing_bucket cap) (bucket_by cap range) log k → ⊥)
+module _ (cap range index : ℕ) where
+  pub place_skip : (log : List ℕ) (k : ℕ) → (In (standing_bucket cap) (bucket_by cap range) log k → ⊥)
       → latest_of (at_place range index) (standing (hist log (suc k))) ≡ latest_of (at_place range index) (standing (hist log k))
-  place_skip = standing_skip cap range log (latest_ignores (at_place range index)) (at_range range index)
+  place_skip log = standing_skip cap range log (latest_ignores (at_place range index)) (at_range range index)
 
-  pub place_hit : (i : ℕ) {b : ℕ} {t : Bool} → 0 < i → In (standing_bucket cap) b log (i - 1) → t ≡ at_place range index (put_entry log (i - 1)) → t ≡ true
-      → latest_of (at_place range index) (standing (hist log i)) ≡ put log (i - 1 + 1)
-  place_hit i l m e h =
-      ap (latest_of (at_place range index)) (standing_hit cap range log l m)
-      ∙ latest_of_hit (at_place range index) (put_entry log (i - 1)) (standing (hist log (i - 1))) (sym e ∙ h)
-      ∙ sym (put_suc log (i - 1))
+  module _ {p : Past} {b : ℕ} {y : Taken} {x : Option Entry} (t : IsTaken p y)
+      (w : AtTurn (standing_bucket cap) b p.log.now (λ n. latest_of (at_place range index) (standing (hist p.log.now n))) x y) where
+    pub place_hit : at_place range index (put_entry y) ≡ true → Some (put_entry y) ≡ x
+    place_hit h =
+        sym (w.same ∙ ap (latest_of (at_place range index)) (standing_hit cap t w.here)
+        ∙ latest_of_hit (at_place range index) (put_entry y) (standing (hist p.log.now (y.number - 1))) h)
 
-  pub place_miss : (i : ℕ) {b : ℕ} {t : Bool} → 0 < i → In (standing_bucket cap) b log (i - 1) → t ≡ at_place range index (put_entry log (i - 1)) → t ≡ false
-      → latest_of (at_place range index) (standing (hist log i)) ≡ latest_of (at_place range index) (standing (hist log (i - 1)))
-  place_miss i l m e h =
-      ap (latest_of (at_place range index)) (standing_hit cap range log l m)
-      ∙ (latest_ignores (at_place range index)).other (put_entry log (i - 1)) (standing (hist log (i - 1))) (sym e ∙ h)
+    pub place_miss : at_place range index (put_entry y) ≡ false → x ≡ latest_of (at_place range index) (standing (hist p.log.now (y.number - 1)))
+    place_miss h =
+        w.same ∙ ap (latest_of (at_place range index)) (standing_hit cap t w.here)
+        ∙ (latest_ignores (at_place range index)).other (put_entry y) (standing (hist p.log.now (y.number - 1))) h
 
-  pub place_end : (i : ℕ) → i ≡ 0 → latest_of (at_place range index) (standing (hist log i)) ≡ None
+  pub place_end : (log : List ℕ) {i : ℕ} → i ≡ 0 → latest_of (at_place range index) (standing (hist log i)) ≡ None
   unfolding latest_of
-  place_end i e = ap (latest_of (at_place range index)) (standing_end log e)
+  place_end log e = ap (latest_of (at_place range index)) (standing_end log e)
 
 -- ---- the chain of the first values of generations
-
-abbrev of_generation : ℕ → ℕ → Entry → Bool
-of_generation range generation v = eqb v.range range && eqb v.held.generation generation
 
 standing_more : (x : TraceRecord) (h : History) {v : Entry} → new_value x h ≡ Some v → standing (x ∷ h) ≡ v ∷ standing h
 unfolding standing
@@ -302,38 +230,53 @@ module _ (cap range generation : ℕ) where
       look_outside (first_at_generation range generation) (generation_bucket cap) (bucket_by_two cap range generation) log
       (λ x h n. generation_go x h n (new_value x h) refl)
 
-  module _ (log : List ℕ) (i : ℕ) {b : ℕ} {t : Bool} (l : 0 < i) (m : In (generation_bucket cap) b log (i - 1))
-      (e : t ≡ eqb (put_entry log (i - 1)).range range && eqb (put_entry log (i - 1)).held.generation generation) where
-    first_at : first_value (record_at log (i - 1)) (hist log (i - 1)) ≡ Some (put_entry log (i - 1))
-    first_at = in_generation cap log (i - 1) m
+  module _ {p : Past} {b : ℕ} {y : Taken} (t : IsTaken p y) (m : In (generation_bucket cap) b p.log.now (y.number - 1)) where
+    first_at : first_value (record_at p.log.now (y.number - 1)) (hist p.log.now (y.number - 1)) ≡ Some (put_entry y)
+    first_at = in_generation cap t m
 
-    generation_at : first_at_generation range generation (hist log i)
-        ≡ earliest_of (of_generation range generation) (put_entry log (i - 1) ∷ standing (hist log (i - 1)))
+    generation_at : first_at_generation range generation (hist p.log.now y.number)
+        ≡ earliest_of (of_generation range generation) (put_entry y ∷ standing (hist p.log.now (y.number - 1)))
     unfolding first_at_generation first_at_generation_in
     generation_at =
-        look_less (first_at_generation range generation) log i l
+        look_less (first_at_generation range generation) p.log.now y.number t.some
         ∙ ap (earliest_of (of_generation range generation))
-        (standing_more (record_at log (i - 1)) (hist log (i - 1)) (first_new (record_at log (i - 1)) (hist log (i - 1)) first_at))
+        (standing_more (record_at p.log.now (y.number - 1)) (hist p.log.now (y.number - 1))
+        (first_new (record_at p.log.now (y.number - 1)) (hist p.log.now (y.number - 1)) first_at))
 
-    pub generation_hit : t ≡ true → first_at_generation range generation (hist log i) ≡ put log (i - 1 + 1)
+    pub generation_hit : of_generation range generation (put_entry y) ≡ true → first_at_generation range generation (hist p.log.now y.number) ≡ Some (put_entry y)
     generation_hit h =
+        let vs = standing (hist p.log.now (y.number - 1)) in
         generation_at
-        ∙ earliest_of_hit (of_generation range generation) (put_entry log (i - 1)) (standing (hist log (i - 1)))
-        (earliest_none (of_generation range generation) (standing (hist log (i - 1)))
-        (any_of_none (of_generation range generation) (standing (hist log (i - 1)))
-        (sym (same_of range generation (put_entry log (i - 1)) (standing (hist log (i - 1))) (sym e ∙ h))
-        ∙ first_free (record_at log (i - 1)) (hist log (i - 1)) first_at)))
-        (sym e ∙ h)
-        ∙ sym (put_suc log (i - 1))
+        ∙ earliest_of_hit (of_generation range generation) (put_entry y) vs
+        (earliest_none (of_generation range generation) vs
+        (any_of_none (of_generation range generation) vs
+        (sym (same_of range generation (put_entry y) vs h) ∙ first_free (record_at p.log.now (y.number - 1)) (hist p.log.now (y.number - 1)) first_at)))
+        h
 
-    pub generation_miss : t ≡ false → first_at_generation range generation (hist log i) ≡ first_at_generation range generation (hist log (i - 1))
-    unfolding first_at_generation first_at_generation_in
-    generation_miss h = generation_at ∙ (earliest_ignores (of_generation range generation)).other (put_entry log (i - 1))
-        (standing (hist log (i - 1))) (sym e ∙ h)
+  -- any other leaves the first as it is, whatever its bucket
+  miss_go : {p : Past} {y : Taken} → IsTaken p y → of_generation range generation (put_entry y) ≡ false → (o : Option Entry)
+      → new_value (record_at p.log.now (y.number - 1)) (hist p.log.now (y.number - 1)) ≡ o
+      → earliest_of (of_generation range generation) (standing (record_at p.log.now (y.number - 1) ∷ hist p.log.now (y.number - 1)))
+      ≡ earliest_of (of_generation range generation) (standing (hist p.log.now (y.number - 1)))
+  miss_go {p} {y} t h None e =
+      ap (earliest_of (of_generation range generation)) (standing_same (record_at p.log.now (y.number - 1)) (hist p.log.now (y.number - 1)) e)
+  miss_go {p} {y} t h (Some v) e =
+      let x = record_at p.log.now (y.number - 1) in
+      let older = hist p.log.now (y.number - 1) in
+      ap (earliest_of (of_generation range generation)) (standing_more x older e)
+      ∙ (earliest_ignores (of_generation range generation)).other v (standing older)
+      (ap (of_generation range generation) (put_is t (new_puts x older e)) ∙ h)
 
-  pub generation_end : (log : List ℕ) (i : ℕ) → i ≡ 0 → first_at_generation range generation (hist log i) ≡ None
+  pub generation_miss : {p : Past} {y : Taken} → IsTaken p y → of_generation range generation (put_entry y) ≡ false
+      → first_at_generation range generation (hist p.log.now y.number) ≡ first_at_generation range generation (hist p.log.now (y.number - 1))
+  unfolding first_at_generation first_at_generation_in
+  generation_miss {p} {y} t h =
+      look_less (first_at_generation range generation) p.log.now y.number t.some
+      ∙ miss_go t h (new_value (record_at p.log.now (y.number - 1)) (hist p.log.now (y.number - 1))) refl
+
+  pub generation_end : (log : List ℕ) → first_at_generation range generation (hist log 0) ≡ None
   unfolding first_at_generation first_at_generation_in earliest_of
-  generation_end log i e = ap (earliest_of (of_generation range generation)) (standing_end log e)
+  generation_end log = ap (earliest_of (of_generation range generation)) (standing_end log refl)
 
 -- ---- the chain of applied indexes
 
@@ -359,23 +302,28 @@ module _ (cap node range : ℕ) where
   unfolding applied
   applied_skip log = latest_outside (tells_applied node range) (applied_bucket cap) (bucket_by_two cap node range) log applied_bucket_lem
 
-module _ (node range : ℕ) (log : List ℕ) (i : ℕ) where
-  module _ {bytes : List ℕ} {t : Bool} (l : 0 < i) (e : bytes ≡ bytes_at (i - 1) log)
-      (q : t ≡ is_by node (decode bytes) && (is_kind 1 (decode bytes) || is_kind 3 (decode bytes) || is_kind 4 (decode bytes)) && eqb
-      (decode bytes).a range) where
-    is_applied : is_by node (record_at log (i - 1)) && (is_kind 1 (record_at log (i - 1)) || is_kind 3 (record_at log (i - 1)) || is_kind 4
-        (record_at log (i - 1)))
-        && eqb (record_at log (i - 1)).a range ≡ t
-    is_applied = sym (rw (record_bytes log (i - 1) e) at q)
+-- a record tells the applied index of a node and range
+abbrev pub tells_of : ℕ → ℕ → TraceRecord → Bool
+tells_of node range x = is_by node x && (is_kind 1 x || is_kind 3 x || is_kind 4 x) && eqb x.a range
 
-    pub applied_hit : {b : ℕ} → t ≡ true → b ≡ (record_at log (i - 1)).b → applied node range (hist log i) ≡ Some b
-    unfolding applied
-    applied_hit h w = latest_found (tells_applied node range) log l (rw (is_applied, h, w))
+-- what the record that is found tells
+abbrev pub told_index : Option Taken → Option ℕ
+told_index o = option_map (λ y. (decode y.record.now).b) o
 
-    pub applied_miss : t ≡ false → applied node range (hist log i) ≡ applied node range (hist log (i - 1))
-    unfolding applied
-    applied_miss h = latest_passed (tells_applied node range) log l (rw (is_applied, h))
+module _ (node range : ℕ) {p : Past} {y : Taken} (t : IsTaken p y) where
+  tells_at : (b : Bool) → tells_of node range (decode y.record.now) ≡ b → tells_of node range (record_at p.log.now (y.number - 1)) ≡ b
+  tells_at b e = ap (tells_of node range) (record_taken t) ∙ e
 
-  pub applied_end : i ≡ 0 → applied node range (hist log i) ≡ None
+  pub applied_hit : tells_of node range (decode y.record.now) ≡ true → told_index (Some y) ≡ applied node range (hist p.log.now y.number)
   unfolding applied
-  applied_end e = latest_end (tells_applied node range) log e
+  applied_hit h =
+      sym (latest_found (tells_applied node range) p.log.now t.some (rw (tells_at true h)) ∙ ap (λ (x : TraceRecord). Some x.b) (record_taken t))
+
+  pub applied_miss : tells_of node range (decode y.record.now) ≡ false
+      → applied node range (hist p.log.now y.number) ≡ applied node range (hist p.log.now (y.number - 1))
+  unfolding applied
+  applied_miss h = latest_passed (tells_applied node range) p.log.now t.some (rw (tells_at false h))
+
+pub applied_end : (node range : ℕ) (log : List ℕ) → applied node range (hist log 0) ≡ None
+unfolding applied
+applied_end node range log = latest_end (tells_applied node range) log refl

@@ -1,5 +1,5 @@
 -- What the answers of this crate's functions stand for in the rules.
-use Rattle.std.specs.Prelude.{Bool, false, cond, not, ◌&&◌, ◌||◌, List, [], ◌∷◌, ℕ, eqb, ltb, leb, Option, None, Some}
+use Rattle.std.specs.Prelude.{Bool, true, cond, not, ◌&&◌, ◌||◌, List, [], ◌∷◌, ℕ, eqb, ltb, leb, Option, None, Some}
 use Rattle.rules.specs.Cases.{Case, fault, fault_if, case_of}
 use Rattle.rules.specs.Answers.{Found}
 use Rattle.record.specs.Records.{TraceRecord}
@@ -25,26 +25,35 @@ found_by (Some v) = Some v.number
 abbrev pub at_place : ℕ → ℕ → Entry → Bool
 at_place range index v = eqb range v.range && eqb index v.index
 
--- the standing values of a range, up to an index unless it is free, of a generation unless any will do
-abbrev pub up_to : ℕ → Bool → ℕ → Bool → ℕ → Entry → Bool
-up_to range free index any generation v =
-    eqb v.range range && (free || leb v.index index) && (any || eqb v.held.generation generation)
+-- what is asked of a number: nothing, or that it passes
+abbrev pub asks : (ℕ → Bool) → Option ℕ → Bool
+asks test None = true
+asks test (Some n) = test n
 
-abbrev pub greatest_up_to : ℕ → Bool → ℕ → Bool → ℕ → List Entry → Option Entry
-greatest_up_to range free index any generation vs = greatest_of (λ v. v.index) (up_to range free index any generation) vs
+-- the standing values of a range, up to an index and of a generation where these are asked for
+abbrev pub up_to : ℕ → Option ℕ → Option ℕ → Entry → Bool
+up_to range index generation v =
+    eqb v.range range && asks (λ top. leb v.index top) index && asks (λ wanted. eqb v.held.generation wanted) generation
 
--- those above an index, of a generation unless any will do
-abbrev pub above : ℕ → ℕ → Bool → ℕ → Entry → Bool
-above range index any generation v =
-    eqb v.range range && ltb index v.index && (any || eqb v.held.generation generation)
+abbrev pub greatest_up_to : ℕ → Option ℕ → Option ℕ → List Entry → Option Entry
+greatest_up_to range index generation vs = greatest_of (λ v. v.index) (up_to range index generation) vs
 
-abbrev pub lowest_above : ℕ → ℕ → Bool → ℕ → List Entry → Option Entry
-lowest_above range index any generation vs = lowest_of (λ v. v.index) (above range index any generation) vs
+-- those above an index, of a generation where that is asked for
+abbrev pub above : ℕ → ℕ → Option ℕ → Entry → Bool
+above range index generation v =
+    eqb v.range range && ltb index v.index && asks (λ wanted. eqb v.held.generation wanted) generation
+
+abbrev pub lowest_above : ℕ → ℕ → Option ℕ → List Entry → Option Entry
+lowest_above range index generation vs = lowest_of (λ v. v.index) (above range index generation) vs
+
+-- those of a range and generation
+abbrev pub of_generation : ℕ → ℕ → Entry → Bool
+of_generation range generation v = eqb v.range range && eqb v.held.generation generation
 
 -- a statement of a generation at an index: the case where the range took that generation above it
 abbrev pub ahead_case : ℕ → ℕ → ℕ → List Entry → Case
 ahead_case range index generation vs =
-    case_of (λ v. fault 2 (range ∷ index ∷ v.index ∷ [])) (lowest_above range index false generation vs)
+    case_of (λ v. fault 2 (range ∷ index ∷ v.index ∷ [])) (lowest_above range index (Some generation) vs)
 
 -- a statement s at an index that is judged by the value v
 abbrev pub differs_case : ℕ → ℕ → Held → Held → List Entry → Case
@@ -62,7 +71,7 @@ abbrev pub against_by : Option Entry → TraceRecord → TraceRecord → ℕ →
 against_by next x s index vs =
     not (holds (λ v. leb v.index index) next)
     && not (held_eqb (held_by x) (held_by s))
-    && (not (ltb x.d s.d) || is_some (lowest_above s.a index false s.d vs))
+    && (not (ltb x.d s.d) || is_some (lowest_above s.a index (Some s.d) vs))
 
 abbrev pub becomes_faulty : Option Entry → Option Entry → TraceRecord → ℕ → TraceRecord → List Entry → Bool
 becomes_faulty next last x index s vs =

@@ -1,16 +1,19 @@
 -- What the columns of `Descriptors` hold: chains of the records that tell the applied indexes, put standing values, state
 -- values, and put the first value of a generation; and a word for each record: the counts after it, and a mark. What a new record
 -- changes in them.
-use Rattle.std.specs.Prelude.{◌≡◌, Bool, true, false, cond, not, ◌&&◌, ◌||◌, List, ◌∷◌, ℕ, zero, suc, ◌+◌, ◌*◌, ◌/◌, ◌≤◌, eqb, leb, length, get_or, Option, None, Some}
+use Rattle.std.specs.Prelude.{◌≡◌, Bool, true, false, cond, not, ◌&&◌, ◌||◌, List, ◌∷◌, ℕ, ◌+◌, ◌*◌, ◌/◌, eqb, leb, Option, None, Some, option_map}
+use Rattle.std.specs.Bool.{then_some}
 use Rattle.record.specs.Named.{Node}
-use Rattle.record.specs.Records.{TraceRecord}
+use Rattle.record.specs.Records.{TraceRecord, decode}
 use Rattle.rules.specs.History.{History, Tells, is_kind, is_some, when, given, holds, any_of}
 use Rattle.rules.specs.Descriptors.{Entry, held_by, tells_put, tells_stated, same_place, standing, statements, is_empty}
-use Rattle.history.specs.Logs.{record_at}
 use Rattle.history.specs.Buckets.{bucket_by, bucket_by_two}
 use Rattle.history.specs.Columns.{Column, cell_of, Chained, Entered}
 use Rattle.history.specs.Places.{applied_heads, applied_links, standing_heads, standing_links, stated_heads, stated_links, generation_heads, generation_links, counts}
+use Rattle.history.specs.declared.walk.Taken.{Taken}
+use Rattle.descriptors.specs.declared.note.Added.{Added}
 use Rattle.descriptors.specs.declared.note.Told.{Told}
+use Rattle.descriptors.specs.declared.note.Told.TheVariants.{Puts, States, Neither}
 
 -- the value that a record puts, where none stood at its place
 unfoldable pub new_value : Tells Entry
@@ -71,59 +74,79 @@ pub record DescriptorsIndexed (cap : ℕ) (h : History) (work : List ℕ) : Type
   pub generation : Chained (generation_bucket cap) (generation_heads * cap) (generation_links * cap) cap h work
   pub counts : Column (cell_of counts_after h) (counts * cap) cap work
 
--- the value that the record at a place puts or states, with the record's number
-abbrev pub put_entry : List ℕ → ℕ → Entry
-put_entry log k = record { range = (record_at log k).a; index = (record_at log k).b; held = held_by (record_at log k); number = suc k }
+-- the value that a record taken puts, with the record's number
+abbrev pub put_entry : Taken → Entry
+put_entry y = record { range = (decode y.record.now).a; index = (decode y.record.now).b; held = held_by (decode y.record.now); number = y.number }
 
--- a RangeCreated states at its floor, a RangeDescriptor at its applied index
+-- the one that it states: a RangeCreated at its floor, a RangeDescriptor at its applied index
 abbrev pub stated_index : TraceRecord → ℕ
 stated_index x = cond (is_kind 1 x) x.b x.c
 
-abbrev pub stated_entry : List ℕ → ℕ → Entry
-stated_entry log k = record { range = (record_at log k).a; index = stated_index (record_at log k); held = held_by (record_at log k); number = suc k }
+abbrev pub stated_entry : Taken → Entry
+stated_entry y = record {
+  range = (decode y.record.now).a;
+  index = stated_index (decode y.record.now);
+  held = held_by (decode y.record.now);
+  number = y.number;
+}
 
--- what a record's number stands for, 0 for none
-abbrev pub put : List ℕ → ℕ → Option Entry
-put log zero = None
-put log (suc k) = Some (put_entry log k)
+-- the value or the statement of the record that was found
+abbrev pub put : Option Taken → Option Entry
+put o = option_map put_entry o
 
-abbrev pub statement : List ℕ → ℕ → Option Entry
-statement log zero = None
-statement log (suc k) = Some (stated_entry log k)
+abbrev pub statement : Option Taken → Option Entry
+statement o = option_map stated_entry o
 
 -- ---- what a new record changes
 
--- the bucket of a record's node and range, where it has a node
-abbrev pub marked_bucket : ℕ → TraceRecord → Node → ℕ
-marked_bucket cap x None = 0
-marked_bucket cap x (Some n) = bucket_by_two cap n.0 x.a
+-- entered into the bucket that it has, and else nothing changes
+abbrev pub EnteredAt : List ℕ → List ℕ → ℕ → ℕ → ℕ → Option ℕ → Type 0
+EnteredAt work work' heads links n None = work' ≡ work
+EnteredAt work work' heads links n (Some b) = Entered work work' heads links n b
 
--- entered where it belongs, and else nothing changes
-abbrev pub EnteredBy : Bool → List ℕ → List ℕ → ℕ → ℕ → ℕ → ℕ → Type 0
-EnteredBy true work work' heads links n b = Entered work work' heads links n b
-EnteredBy false work work' heads links n b = work' ≡ work
+pub record EnteredIf (work work' : List ℕ) (heads links n : ℕ) (bucket : Option ℕ) : Type 0 where
+  pub is : EnteredAt work work' heads links n bucket
 
-pub record EnteredIf (yes : Bool) (work work' : List ℕ) (heads links n b : ℕ) : Type 0 where
-  pub is : EnteredBy yes work work' heads links n b
+-- what a record is told to do: whether it puts, and what its value is where that newly stands; whether it states
+abbrev pub puts_value : Told → Bool
+puts_value (Puts a) = true
+puts_value States = false
+puts_value Neither = false
+
+abbrev pub added : Told → Option Added
+added (Puts a) = a
+added States = None
+added Neither = None
+
+abbrev pub states_value : Told → Bool
+states_value (Puts a) = false
+states_value States = true
+states_value Neither = false
+
+abbrev pub adds_first : Told → Bool
+adds_first t = holds (λ a. a.first) (added t)
+
+abbrev pub adds_rising : Told → Bool
+adds_rising t = holds (λ a. a.rises) (added t)
+
+-- what a record is told to do is what it does
+pub record Telling (x : TraceRecord) (h : History) (t : Told) : Type 0 where
+  pub puts : puts_value t ≡ is_some (tells_put x h)
+  pub states : states_value t ≡ is_some (tells_stated x h)
+  pub stands : is_some (added t) ≡ is_some (new_value x h)
+  pub first : adds_first t ≡ is_some (first_value x h)
+  pub rises : adds_rising t ≡ is_rising x h
 
 -- the four chains, one after the other
-pub record AllEntered (work work' : List ℕ) (count cap by_node : ℕ) (applied : Bool) (by_range : ℕ) (stands states : Bool) (by_generation : ℕ)
-    (first : Bool) : Type 0 where
+pub record AllEntered (work work' : List ℕ) (count cap : ℕ) (x : TraceRecord) (t : Told) : Type 0 where
   pub work1 : List ℕ
   pub work2 : List ℕ
   pub work3 : List ℕ
-  pub entered_by_node : EnteredIf applied work work1 (applied_heads * cap) (applied_links * cap) count by_node
-  pub entered_by_range : EnteredIf stands work1 work2 (standing_heads * cap) (standing_links * cap) count by_range
-  pub entered_by_statement : EnteredIf states work2 work3 (stated_heads * cap) (stated_links * cap) count by_range
-  pub entered_by_generation : EnteredIf first work3 work' (generation_heads * cap) (generation_links * cap) count by_generation
-
--- what a record is told to be is what it is
-pub record Telling (x : TraceRecord) (h : History) (t : Told) : Type 0 where
-  pub puts : t.puts ≡ is_some (tells_put x h)
-  pub states : t.states ≡ is_some (tells_stated x h)
-  pub stands : t.stands ≡ is_some (new_value x h)
-  pub first : t.first ≡ is_some (first_value x h)
-  pub rises : t.rises ≡ is_rising x h
+  pub entered_by_node : EnteredIf work work1 (applied_heads * cap) (applied_links * cap) count (applied_at cap x x.node)
+  pub entered_by_range : EnteredIf work1 work2 (standing_heads * cap) (standing_links * cap) count (then_some (is_some (added t)) (bucket_by cap x.a))
+  pub entered_by_statement : EnteredIf work2 work3 (stated_heads * cap) (stated_links * cap) count (then_some (states_value t) (bucket_by cap x.a))
+  pub entered_by_generation :
+      EnteredIf work3 work' (generation_heads * cap) (generation_links * cap) count (then_some (adds_first t) (bucket_by_two cap x.a x.d))
 
 -- the counts after a record
 abbrev pub counts_next : ℕ → Bool → Bool → ℕ
@@ -132,9 +155,3 @@ counts_next old puts states = cond states (old + 2) (cond puts (old / 2 * 2 + 1)
 -- how many columns the crate has: they are the first, up to that of the counts
 abbrev pub own_columns : ℕ
 own_columns = 9
-
--- no word outside them changes; and the columns are right with the record where they were without it
-pub record DescriptorsNoted (work work' : List ℕ) (count cap : ℕ) (x : TraceRecord) (t : Told) : Type 0 where
-  pub len : length work' ≡ length work
-  pub others : (j : ℕ) → own_columns * cap ≤ j → get_or work' j 0 ≡ get_or work j 0
-  pub indexed : (h : History) → length h ≡ count → Telling x h t → DescriptorsIndexed cap h work → DescriptorsIndexed cap (x ∷ h) work'

@@ -1,5 +1,5 @@
 // What a record does: the applied index that it is read at, and whether it puts its value, states it, or neither.
-ghost use Rattle.std.specs.Prelude.{◌≡◌, ◌&&◌, ◌||◌, ◌<◌, eqb, leb};
+ghost use Rattle.std.specs.Prelude.{◌≡◌, ◌&&◌, ◌||◌, eqb, leb};
 ghost use Rattle.record.specs.Records.{decode};
 ghost use Rattle.rules.specs.History.{is_kind, is_by, by_node, holds};
 ghost use Rattle.rules.specs.Descriptors.{applied, reached, created_role, role_of};
@@ -7,9 +7,9 @@ ghost use Rattle.descriptors.specs.Columns.{DescriptorsIndexed};
 ghost use Rattle.descriptors.specs.Answers.{role_is};
 ghost use Rattle.history.specs.Pasts.{taken, Indexed};
 
-use history::past::Past;
-use crate::cells::{applied_below, applied_top};
 use history::bucket::bucket_by_two;
+use history::past::Past;
+use history::place::{APPLIED_HEADS, APPLIED_LINKS};
 use record::Record;
 use record::field::{a, b, c, code, kind, node};
 use record::named::{NodeId, RangeCause};
@@ -27,15 +27,17 @@ fn is_by(n: Option<NodeId>, id: u32) -> bool
     n.is_some_and(|marked| marked.0 == id)
 }
 
+// Whether a record of a kind tells an applied index, where it is marked.
 pub fn applies(k: u8) -> bool
     ensures { result ≡ eqb k 1 || eqb k 3 || eqb k 4 }
 {
-    (k == 1) | (k == 3) | (k == 4)
+    matches!(k, 1 | 3 | 4)
 }
 
 // Whether a record tells the applied index of a node and range.
 fn is_applied(rec: &Record, id: u32, range: u64) -> bool
-    ensures { result ≡ is_by id (decode rec.now) && (is_kind 1 (decode rec.now) || is_kind 3 (decode rec.now) || is_kind 4 (decode rec.now)) && eqb (decode rec.now).a range }
+    ensures { let x = decode rec.now in
+        result ≡ is_by id x && (is_kind 1 x || is_kind 3 x || is_kind 4 x) && eqb x.a range }
 {
     is_by(node(rec), id) & applies(kind(rec)) & (a(rec) == range)
 }
@@ -44,15 +46,10 @@ fn is_applied(rec: &Record, id: u32, range: u64) -> bool
 pub fn applied_of(past: &Past, id: u32, range: u64) -> Option<u64>
     ensures { Indexed DescriptorsIndexed past.now → result ≡ applied id range (taken past.now) }
 {
-    let mut i = applied_top(past.work, past.cap, bucket_by_two(past.cap, id as u64, range), past.count);
-    while 0 < i {
-        i -= 1;
-        if is_applied(past.record(i), id, range) {
-            return Some(b(past.record(i)));
-        }
-        i = applied_below(past.work, past.cap, i);
-    }
-    None
+    let bucket = bucket_by_two(past.cap, u64::from(id), range);
+    past.chain(APPLIED_HEADS, APPLIED_LINKS, bucket)
+        .find(|old| is_applied(old.record, id, range))
+        .map(|old| b(old.record))
 }
 
 // Whether an applied index is known, and at least another.
@@ -63,6 +60,7 @@ fn at_least(applied: Option<u64>, index: u64) -> bool
 }
 
 // Whether a record is marked and a known applied index is at least its own.
+#[tactic(auto, unfolding(rules::specs::Descriptors::reached))]
 fn is_reached(past: &Past, rec: &Record) -> bool
     ensures { Indexed DescriptorsIndexed past.now → result ≡ reached (decode rec.now) (taken past.now) (decode rec.now).node }
 {
@@ -76,25 +74,20 @@ fn created_role(by: RangeCause, floor: u64) -> Role
     ensures { role_is result ≡ created_role by floor }
 {
     match by {
-        RangeCause::Bootstrap => Role::Puts(floor),
-        RangeCause::Split => Role::Puts(floor),
+        RangeCause::Bootstrap | RangeCause::Split => Role::Puts(floor),
         RangeCause::Snapshot => Role::States(floor),
     }
 }
 
 // The role of a record over those of the log.
+#[tactic(auto, unfolding(rules::specs::Descriptors::role_of))]
 pub fn role_of(past: &Past, rec: &Record) -> Role
     ensures { Indexed DescriptorsIndexed past.now → role_is result ≡ role_of (decode rec.now) (taken past.now) }
 {
-    let k = kind(rec);
-    if k == 1 {
-        return created_role(RangeCause::from(code(rec)), b(rec));
+    match kind(rec) {
+        1 => created_role(RangeCause::from(code(rec)), b(rec)),
+        2 if is_reached(past, rec) => Role::States(c(rec)),
+        2 => Role::Puts(b(rec)),
+        _ => Role::Neither,
     }
-    if k != 2 {
-        return Role::Neither;
-    }
-    if is_reached(past, rec) {
-        return Role::States(c(rec));
-    }
-    Role::Puts(b(rec))
 }

@@ -1,211 +1,212 @@
 // The standing values of a range: walks along their chain, and the look-ups.
-ghost use Rattle.std.specs.Prelude.{◌≡◌, ◌&&◌, ◌||◌, not, cond, ℕ, ◌+◌, ◌*◌, ◌-◌, ◌≤◌, ◌<◌, eqb, leb, ltb, length, get_or, Some};
-ghost use Rattle.record.specs.Records.{decode};
-ghost use Rattle.rules.specs.History.{latest_of, holds};
+ghost use Rattle.std.specs.Prelude.{◌≡◌, Bool, ℕ, Some, ◌&&◌, ◌+◌, ◌-◌, ◌*◌, ◌<◌, eqb, leb, get_or};
+ghost use Rattle.rules.specs.History.{latest_of};
 ghost use Rattle.rules.specs.Descriptors.{standing, at, before, first_at_generation};
-ghost use Rattle.history.specs.Logs.{record_at};
-ghost use Rattle.history.specs.Weighing.{greater_of, lower_of};
-ghost use Rattle.history.specs.Places.{counts};
+ghost use Rattle.history.specs.Buckets.{bucket_by};
+ghost use Rattle.history.specs.declared.past.Past.{Past};
+ghost use Rattle.history.specs.Weighing.{weigh_of};
+ghost use Rattle.history.specs.Places.{standing_heads, standing_links, counts};
+ghost use Rattle.history.specs.Pasts.{taken, Indexed, IsTaken, IsFound, Begins};
 ghost use Rattle.descriptors.specs.Columns.{DescriptorsIndexed, put_entry, put};
-ghost use Rattle.descriptors.specs.Answers.{found_by, greatest_up_to, lowest_above, at_place};
-ghost use Rattle.rules.specs.Answers.{found_at};
-ghost use Rattle.history.specs.Pasts.{taken, Indexed};
+ghost use Rattle.descriptors.specs.Answers.{found_by, asks, up_to, greatest_up_to, above, lowest_above, at_place, of_generation};
 
-use history::past::Past;
-use crate::cells::{generation_below, generation_top, is_rising, standing_below, standing_top};
+use crate::cells::is_rising;
 use history::bucket::{bucket_by, bucket_by_two};
-use history::log::record_at;
-use record::Record;
+use history::past::Past;
+use history::place::{GENERATION_HEADS, GENERATION_LINKS, STANDING_HEADS, STANDING_LINKS};
+use history::walk::{Chain, Taken};
 use record::field::{a, b, d};
 
-// The index at which the record of a number puts its value.
-pub fn index_of(log: &[u8], number: usize) -> u64
-    requires { (0 < number) × (368 * number ≤ length log.now) }
-    ensures { result ≡ (record_at log.now (number - 1)).b }
+// The index at which a record puts its value.
+pub fn index_of(value: &Taken) -> u64
+    ensures { result ≡ (put_entry value.now).index }
 {
-    b(record_at(log, number - 1))
+    b(value.record)
 }
 
-// Whether a value, given by its number, is below an index; where there is none, so it is.
-pub fn is_below(log: &[u8], number: usize, index: u64) -> bool
-    requires { 368 * number ≤ length log.now }
-    ensures { result ≡ not (holds (λ v. leb index v.index) (put log.now number)) }
+// The standing values of a range, with those of the other ranges of its bucket.
+fn standing<'a>(past: &Past<'a>, range: u64) -> Chain<'a>
+    ensures { Begins past.now standing_heads standing_links (bucket_by past.now.cap range) result }
 {
-    if number == 0 {
-        return true;
+    past.chain(STANDING_HEADS, STANDING_LINKS, bucket_by(past.cap, range))
+}
+
+// Whether every earlier value of the range than that of a record is known to be below the index.
+fn is_rest_below(past: &Past, old: &Taken, range: u64, index: u64) -> bool
+    requires { IsTaken past.now old.now }
+    ensures { let v = put_entry old.now in
+        result ≡ leb 16384 (get_or past.now.work.now (counts * past.now.cap + (old.now.number - 1)) 0) && eqb v.range range && leb v.index index }
+{
+    is_rising(past, old) & (a(old.record) == range) & (index_of(old) <= index)
+}
+
+// Whether a value is of a generation, where one is asked for.
+#[tactic(auto, unfolding(rules::specs::Descriptors::held_by))]
+fn is_of_generation(value: &Taken, generation: Option<u64>) -> bool
+    ensures { result ≡ asks (λ wanted. eqb (put_entry value.now).held.generation wanted) generation }
+{
+    generation.is_none_or(|wanted| d(value.record) == wanted)
+}
+
+// Whether a value is of a range, and up to an index and of a generation where these are asked for.
+fn is_up_to(value: &Taken, range: u64, index: Option<u64>, generation: Option<u64>) -> bool
+    ensures { result ≡ up_to range index generation (put_entry value.now) }
+{
+    let at = index_of(value);
+    (a(value.record) == range)
+        & index.is_none_or(|top| at <= top)
+        & is_of_generation(value, generation)
+}
+
+// The better of two values: the one so far, where its index keeps its place against the older one's, and else the older.
+fn better<'a, F: Fn(u64, u64) -> bool>(
+    best: Option<Taken<'a>>,
+    old: Taken<'a>,
+    keeps: F,
+) -> Option<Taken<'a>>
+    requires { F.IsAlwaysCallable keeps }
+    ensures better { (test : ℕ → ℕ → Bool) → ((x y : ℕ) (b : Bool) → F.post keeps x y b → b ≡ test x y)
+        → put result ≡ weigh_of (λ w v. test w.index v.index) (put best.entry) (Some (put_entry old.entry)) }
+    ensures found { (p : Past) → IsFound p best.entry → IsTaken p old.entry → IsFound p result }
+{
+    match best {
+        Some(kept) if keeps(index_of(&kept), index_of(&old)) => best,
+        _ => Some(old),
     }
-    index_of(log, number) < index
 }
 
-// Whether every earlier value of the range than that of the record at place i is known to be below the index.
-fn rest_below(log: &[u8], work: &[u64], cap: usize, i: usize, range: u64, index: u64) -> bool
-    requires { (368 * i + 368 ≤ length log.now) × ((32 * cap ≤ length work.now) × ((i < cap) × (cap ≤ 4096))) }
-    ensures { result ≡ leb 16384 (get_or work.now (counts * cap + i) 0) && eqb (record_at log.now i).a range && leb (record_at log.now i).b index }
+// The value of a range at the greatest index, up to one and of a generation where these are asked for. Earlier values than a
+// marked one that passes are below it: the walk stops, as no `max_by_key` would.
+pub fn greatest<'a>(
+    past: &Past<'a>,
+    range: u64,
+    index: Option<u64>,
+    generation: Option<u64>,
+) -> Option<Taken<'a>>
+    ensures found { IsFound past.now result }
+    ensures greatest { Indexed DescriptorsIndexed past.now → put result ≡ greatest_up_to range index generation (standing (taken past.now)) }
 {
-    let rec = record_at(log, i);
-    is_rising(work, cap, i) & (a(rec) == range) & (b(rec) <= index)
-}
-
-// Whether the value of a record is of a range, up to an index unless it is free, of a generation unless any will do.
-fn is_up_to(rec: &Record, range: u64, free: bool, index: u64, any: bool, generation: u64) -> bool
-    ensures { result ≡ eqb (decode rec.now).a range && (free || leb (decode rec.now).b index) && (any || eqb (decode rec.now).d generation) }
-{
-    (a(rec) == range) & (free | (b(rec) <= index)) & (any | (d(rec) == generation))
-}
-
-// The number of the greater of two values, 0 being none, where the one at place i passes: of equals the older, at place i.
-fn greater(log: &[u8], best: usize, i: usize, passes: bool) -> usize
-    requires { (368 * best ≤ length log.now) × ((368 * i + 368 ≤ length log.now) × (i < 4096)) }
-    ensures { (put log.now result ≡ cond passes (greater_of (λ v. v.index) (put log.now best) (Some (put_entry log.now i))) (put log.now best)) × ((n : ℕ) → best ≤ n → i < n → result ≤ n) }
-{
-    if !passes {
-        return best;
-    }
-    if best == 0 {
-        return i + 1;
-    }
-    if index_of(log, best) <= index_of(log, i + 1) {
-        return i + 1;
+    let mut best: Option<Taken> = None;
+    for old in standing(past, range) {
+        if is_up_to(&old, range, index, generation) {
+            best = better(best, old, |kept, next| next < kept);
+            if is_rising(past, &old) {
+                return best;
+            }
+        }
     }
     best
 }
 
-fn lower(log: &[u8], best: usize, i: usize, passes: bool) -> usize
-    requires { (368 * best ≤ length log.now) × ((368 * i + 368 ≤ length log.now) × (i < 4096)) }
-    ensures { (put log.now result ≡ cond passes (lower_of (λ v. v.index) (put log.now best) (Some (put_entry log.now i))) (put log.now best)) × ((n : ℕ) → best ≤ n → i < n → result ≤ n) }
+// Whether a value is of a range, above an index, and of a generation where that is asked for.
+fn is_above(value: &Taken, range: u64, index: u64, generation: Option<u64>) -> bool
+    ensures { result ≡ above range index generation (put_entry value.now) }
 {
-    if !passes {
-        return best;
-    }
-    if best == 0 {
-        return i + 1;
-    }
-    if index_of(log, i + 1) <= index_of(log, best) {
-        return i + 1;
-    }
-    best
+    (a(value.record) == range) & (index < index_of(value)) & is_of_generation(value, generation)
 }
 
-// The number of the standing value of a range at the greatest index up to the one given, or at all where that is free. Earlier
-// values than a marked one that passes are below it: the walk stops.
-pub fn greatest(past: &Past, range: u64, free: bool, index: u64, any: bool, generation: u64) -> usize
-    ensures { (result ≤ past.now.count) × (Indexed DescriptorsIndexed past.now → put past.now.log.now result ≡ greatest_up_to range free index any generation (standing (taken past.now))) }
+// The value of a range at the lowest index above one, of a generation where that is asked for. The walk stops where nothing
+// earlier is above.
+pub fn lowest<'a>(
+    past: &Past<'a>,
+    range: u64,
+    index: u64,
+    generation: Option<u64>,
+) -> Option<Taken<'a>>
+    ensures found { IsFound past.now result }
+    ensures lowest { Indexed DescriptorsIndexed past.now → put result ≡ lowest_above range index generation (standing (taken past.now)) }
 {
-    let mut best = 0usize;
-    let mut i = standing_top(past.work, past.cap, bucket_by(past.cap, range), past.count);
-    while 0 < i {
-        i -= 1;
-        let passes = is_up_to(past.record(i), range, free, index, any, generation);
-        best = greater(past.log, best, i, passes);
-        if passes & is_rising(past.work, past.cap, i) {
+    let mut best: Option<Taken> = None;
+    for old in standing(past, range) {
+        if is_above(&old, range, index, generation) {
+            best = better(best, old, |kept, next| kept < next);
+        } else if is_rest_below(past, &old, range, index) {
             return best;
         }
-        i = standing_below(past.work, past.cap, i);
     }
     best
 }
 
-// Whether the value of a record is of a range, above an index, of a generation unless any will do.
-fn is_above(rec: &Record, range: u64, index: u64, any: bool, generation: u64) -> bool
-    ensures { result ≡ eqb (decode rec.now).a range && ltb index (decode rec.now).b && (any || eqb (decode rec.now).d generation) }
+fn is_at(value: &Taken, range: u64, index: u64) -> bool
+    ensures { result ≡ at_place range index (put_entry value.now) }
 {
-    (a(rec) == range) & (index < b(rec)) & (any | (d(rec) == generation))
+    (range == a(value.record)) & (index == index_of(value))
 }
 
-// The number of the standing value of a range at the lowest index above the one given. The walk stops where nothing earlier
-// is above.
-pub fn lowest(past: &Past, range: u64, index: u64, any: bool, generation: u64) -> usize
-    ensures { (result ≤ past.now.count) × (Indexed DescriptorsIndexed past.now → put past.now.log.now result ≡ lowest_above range index any generation (standing (taken past.now))) }
+// The value that stands at an index of a range. The walk stops where everything earlier is below, with nothing found: so it is
+// no `find`.
+pub fn standing_at<'a>(past: &Past<'a>, range: u64, index: u64) -> Option<Taken<'a>>
+    ensures found { IsFound past.now result }
+    ensures standing { Indexed DescriptorsIndexed past.now → put result ≡ latest_of (at_place range index) (standing (taken past.now)) }
 {
-    let mut best = 0usize;
-    let mut i = standing_top(past.work, past.cap, bucket_by(past.cap, range), past.count);
-    while 0 < i {
-        i -= 1;
-        let passes = is_above(past.record(i), range, index, any, generation);
-        best = lower(past.log, best, i, passes);
-        if rest_below(past.log, past.work, past.cap, i, range, index) {
-            return best;
+    for old in standing(past, range) {
+        if is_at(&old, range, index) {
+            return Some(old);
         }
-        i = standing_below(past.work, past.cap, i);
-    }
-    best
-}
-
-fn is_at(rec: &Record, range: u64, index: u64) -> bool
-    ensures { result ≡ eqb range (decode rec.now).a && eqb index (decode rec.now).b }
-{
-    (range == a(rec)) & (index == b(rec))
-}
-
-// The number of the value that stands at an index of a range. The walk stops where everything earlier is below.
-pub fn standing_at(past: &Past, range: u64, index: u64) -> usize
-    ensures { (result ≤ past.now.count) × (Indexed DescriptorsIndexed past.now → put past.now.log.now result ≡ latest_of (at_place range index) (standing (taken past.now))) }
-{
-    let mut i = standing_top(past.work, past.cap, bucket_by(past.cap, range), past.count);
-    while 0 < i {
-        i -= 1;
-        if is_at(past.record(i), range, index) {
-            return i + 1;
+        if is_rest_below(past, &old, range, index) {
+            return None;
         }
-        if rest_below(past.log, past.work, past.cap, i, range, index) {
-            return 0;
-        }
-        i = standing_below(past.work, past.cap, i);
     }
-    0
+    None
 }
 
-fn is_of(rec: &Record, range: u64, generation: u64) -> bool
-    ensures { result ≡ eqb (decode rec.now).a range && eqb (decode rec.now).d generation }
+#[tactic(auto, unfolding(rules::specs::Descriptors::held_by))]
+fn is_of(value: &Taken, range: u64, generation: u64) -> bool
+    ensures { result ≡ of_generation range generation (put_entry value.now) }
 {
-    (a(rec) == range) & (d(rec) == generation)
+    (a(value.record) == range) & (d(value.record) == generation)
 }
 
-// The number of the first value of a range and generation.
-pub fn first_of(past: &Past, range: u64, generation: u64) -> usize
-    ensures { (result ≤ past.now.count) × (Indexed DescriptorsIndexed past.now → put past.now.log.now result ≡ first_at_generation range generation (taken past.now)) }
+// The first value of a range and generation.
+pub fn first_of<'a>(past: &Past<'a>, range: u64, generation: u64) -> Option<Taken<'a>>
+    ensures found { IsFound past.now result }
+    ensures first { Indexed DescriptorsIndexed past.now → put result ≡ first_at_generation range generation (taken past.now) }
 {
-    let mut i = generation_top(past.work, past.cap, bucket_by_two(past.cap, range, generation), past.count);
-    while 0 < i {
-        i -= 1;
-        if is_of(past.record(i), range, generation) {
-            return i + 1;
-        }
-        i = generation_below(past.work, past.cap, i);
-    }
-    0
+    let bucket = bucket_by_two(past.cap, range, generation);
+    past.chain(GENERATION_HEADS, GENERATION_LINKS, bucket)
+        .find(|old| is_of(old, range, generation))
 }
 
-fn found(number: usize) -> Option<u64>
-    requires { number ≤ 4096 }
-    ensures { result ≡ found_at number }
+// The value in force at an index of a range, and the one before it: that at the index before.
+#[tactic(auto, using(crate::proofs::Found::at_is))]
+pub fn value_at<'a>(past: &Past<'a>, range: u64, index: u64) -> Option<Taken<'a>>
+    ensures found { IsFound past.now result }
+    ensures value { Indexed DescriptorsIndexed past.now → put result ≡ at range index (taken past.now) }
 {
-    if number == 0 {
-        return None;
-    }
-    Some(number as u64)
+    greatest(past, range, Some(index), None)
 }
 
-// The value in force at an index of a range: the number of the record that put it.
+#[tactic(auto, using(rules::proofs::LookUps::before_at, rules::proofs::LookUps::before_zero))]
+pub fn value_before<'a>(past: &Past<'a>, range: u64, index: u64) -> Option<Taken<'a>>
+    ensures found { IsFound past.now result }
+    ensures value { Indexed DescriptorsIndexed past.now → put result ≡ before range index (taken past.now) }
+{
+    value_at(past, range, index.checked_sub(1)?)
+}
+
+// The number of the record that put a value.
+fn number(value: Option<Taken>) -> Option<u64>
+    ensures { result ≡ found_by (put value.entry) }
+{
+    value.map(|found| found.number as u64)
+}
+
+// The look-ups: the value in force at an index of a range, the one before it, and the first of a generation, each by the number
+// of the record that put it.
 pub fn at(past: &Past, range: u64, index: u64) -> Option<u64>
     ensures { Indexed DescriptorsIndexed past.now → result ≡ found_by (at range index (taken past.now)) }
 {
-    found(greatest(past, range, false, index, true, 0))
+    number(value_at(past, range, index))
 }
 
-// The value in force before an index of a range: the one at the index before it.
 pub fn before(past: &Past, range: u64, index: u64) -> Option<u64>
     ensures { Indexed DescriptorsIndexed past.now → result ≡ found_by (before range index (taken past.now)) }
 {
-    if index == 0 {
-        return None;
-    }
-    at(past, range, index - 1)
+    number(value_before(past, range, index))
 }
 
-// The first value of a range and generation: the number of the record that put it.
 pub fn first_at_generation(past: &Past, range: u64, generation: u64) -> Option<u64>
     ensures { Indexed DescriptorsIndexed past.now → result ≡ found_by (first_at_generation range generation (taken past.now)) }
 {
-    found(first_of(past, range, generation))
+    number(first_of(past, range, generation))
 }

@@ -8,3 +8,4 @@ pub mod Pasts
 pub mod Finds
 pub mod Copies
 pub mod Mixing
+pub mod Options

@@ -3,20 +3,20 @@ use mathlib.Core.Path.{◌≡◌, refl, sym, ap, ◌∙◌}
 use mathlib.Core.Bool.{Bool, true, false}
 use mathlib.Core.List.{List, [], ◌∷◌}
 use Rattle.std.specs.Prelude.{Option, None, Some}
-use Prim.Native.Nat.{ℕ, suc, ◌+◌, ◌*◌, ◌-◌, ◌≤◌, ◌<◌}
+use Prim.Native.Nat.{ℕ, ◌+◌, ◌*◌, ◌-◌, ◌≤◌, ◌<◌}
 use native.Mathlib.Omega.{arith}
 use lib.ListN.{get_or}
 use Rattle.record.specs.Records.{TraceRecord}
 use Rattle.rules.specs.History.{History, when, given, those, firsts}
 use Rattle.rules.specs.IdsUnique.{Grant, grant_by, nonempty, first_grants, blocks_of}
-use Rattle.history.specs.Logs.{record_at, hist}
+use Rattle.history.specs.Logs.{hist}
 use Rattle.history.specs.Columns.{Column, cell_of, latest_in, clamp}
 use Rattle.history.specs.Places.{block_links, greatest_last}
 use Rattle.history.proofs.Logs.{hist_less}
 use Rattle.rules.proofs.Tellings.{when_value, when_holds}
 use Rattle.history.proofs.Cells.{cell_at}
-use Rattle.history.proofs.Chains.{In, Stands, latest_bound, latest_in_lem, skip, clamped}
-use Rattle.history.proofs.Walks.{look_less, look_end, look_outside}
+use Rattle.history.proofs.Chains.{latest_bound, clamped}
+use Rattle.history.proofs.Walks.{look_end}
 use Rattle.firsts.specs.Columns.{first_grant}
 use Rattle.ids_unique.specs.Columns.{tells_block, block_bucket, latest_block, greatest_of_lasts, IdsIndexed}
 use Rattle.record.proofs.Booleans.{none_some}
@@ -92,25 +92,11 @@ module _ (x : TraceRecord) (h : History) where
       go None q = ap (those nonempty) (grants_same x h q)
       go (Some v) q = ap (those nonempty) (grants_more x h q) ∙ pass v (nonempty v) refl (rw q at e)
 
--- a walk from block to block: what it passes over, a turn, and the end
+-- there are none yet
 module _ (log : List ℕ) where
-  pub blocks_skip : {A : Type 0} (L : List Grant → A) (k : ℕ) → (In block_bucket 0 log k → ⊥)
-      → L (blocks_of (hist log (suc k))) ≡ L (blocks_of (hist log k))
-  blocks_skip L = look_outside (λ h. L (blocks_of h)) block_bucket 0 log (λ x h n. ap L (blocks_same x h (not_block x h n)))
-
-  pub blocks_turn : {i : ℕ} → 0 < i → In block_bucket 0 log (i - 1) → blocks_of (hist log i) ≡ grant_by (record_at log (i - 1)) ∷ blocks_of (hist log (i - 1))
-  blocks_turn {i} l m =
-      look_less blocks_of log i l
-      ∙ blocks_more (record_at log (i - 1)) (hist log (i - 1)) (in_block (record_at log (i - 1)) (hist log (i - 1)) m)
-
   pub blocks_end : {i : ℕ} → i ≡ 0 → blocks_of (hist log i) ≡ []
   unfolding blocks_of first_grants firsts those
   blocks_end e = look_end blocks_of log e
-
-  -- where it stands, from what is looked for in the first n records
-  pub block_stands : {A : Type 0} (g : ℕ → A) → ((k : ℕ) → (In block_bucket 0 log k → ⊥) → g (suc k) ≡ g k)
-      → {x : A} {n i : ℕ} → x ≡ g n → i ≡ latest_block (hist log n) → Stands block_bucket 0 log g x i
-  block_stands g s {x} {n} {i} y e = rw e (record { here = latest_in_lem block_bucket 0 log n; same = y ∙ skip block_bucket 0 log g s n })
 
 -- what the columns say as of the first n records
 module _ (log : List ℕ) {cap count n : ℕ} {work : List ℕ} (l : n ≤ count) (m : count ≤ cap) (k : IdsIndexed cap (hist log count) work) where

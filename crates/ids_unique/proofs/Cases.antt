@@ -9,14 +9,13 @@ use lib.Dec.{eqb, leb}
 use borrow.Author.Tests.{eq-eqb, ne_eqb, le-leb, lt-leb}
 use Rattle.record.specs.Records.{TraceRecord, decode}
 use Rattle.rules.specs.Cases.{Case, fault, fault_if}
-use Rattle.rules.specs.History.{History, latest_of, any_of}
+use Rattle.rules.specs.History.{History, given, latest_of, any_of}
 use Rattle.rules.specs.IdsUnique.{Grant, grant_by, grant_eqb, same_index, first_grants, shares, blocks_of, shared_fault, first_fault, grant_fault, ids_at}
 use Rattle.history.specs.Logs.{bytes_at, record_at, hist}
 use Rattle.history.proofs.Logs.{record_bytes}
-use Rattle.ids_unique.specs.declared.block.Shared.{Shared}
 use Rattle.firsts.specs.Columns.{first_grant_at}
 use Rattle.ids_unique.specs.Columns.{greatest_of_lasts}
-use Rattle.ids_unique.specs.Sharing.{weigh_all}
+use Rattle.ids_unique.specs.Sharing.{shared_top}
 use Rattle.firsts.proofs.Grants.{grant_numbered, latest_grant}
 use Rattle.ids_unique.proofs.Sharing.{shared_case, above_all}
 
@@ -37,21 +36,9 @@ module _ (g : Grant) (bs : List Grant) where
       → None ≡ first_fault g bs
   apart_case p q l t a = sym (full_case p q l ∙ rw (above_all g bs (omega arith)))
 
-  pub walk_case : {first last : ℕ} {s : Shared} → first ≡ g.first → last ≡ g.last → first ≤ last
-      → s ≡ weigh_all first last (record { any = false; top = 0 }) bs
-      → fault_if s.any (fault 3 (g.index ∷ s.top ∷ [])) ≡ first_fault g bs
-  walk_case {first} {last} {s} p q l e =
-      let w : s ≡ weigh_all g.first g.last (record { any = false; top = 0 }) bs = rw (← p, ← q) e in
-      sym (full_case p q l ∙ shared_case g bs w)
-
--- the fault of the walk, and none
-module _ (g : Grant) where
-  pub shared_fault_lem : (s : Shared) {b : ℕ} {r : Case} → s.any ≡ true → b ≡ g.index → r ≡ fault 3 (b ∷ s.top ∷ [])
-      → r ≡ fault_if s.any (fault 3 (g.index ∷ s.top ∷ []))
-  shared_fault_lem s {b} a i e = e ∙ ap (λ (k : ℕ). fault 3 (k ∷ s.top ∷ [])) i ∙ rw a
-
-  pub shared_clear : (s : Shared) → s.any ≡ false → None ≡ fault_if s.any (fault 3 (g.index ∷ s.top ∷ []))
-  shared_clear s a = rw a
+  pub walk_case : {first last : ℕ} {top : Option ℕ} {r : Case} → first ≡ g.first → last ≡ g.last → first ≤ last → top ≡ shared_top first last bs
+      → r ≡ given (λ n. fault 3 (g.index ∷ n ∷ [])) top → r ≡ first_fault g bs
+  walk_case p q l t e = e ∙ rw (t, p, q) (sym (full_case p q l ∙ shared_case g bs))
 
 -- a grant again
 module _ (g o : Grant) {t : Bool} (e : t ≡ grant_eqb g o) where

@@ -1,10 +1,9 @@
 -- The columns of `IdsUnique`: the latest block and the greatest last, each as of every record. What they hold, and what a note
 -- promises.
-use Rattle.std.specs.Prelude.{◌≡◌, Bool, true, false, List, [], ◌∷◌, ℕ, ◌+◌, ◌*◌, ◌≤◌, ◌<◌, max, length, get_or, Some}
+use Rattle.std.specs.Prelude.{◌≡◌, true, false, List, [], ◌∷◌, ℕ, ◌*◌, ◌≤◌, ◌<◌, max, length, get_or, Some}
 use Rattle.record.specs.Records.{TraceRecord}
-use Rattle.rules.specs.History.{History, Tells, is_kind, when, given, is_some}
+use Rattle.rules.specs.History.{History, Tells, is_kind, when, given}
 use Rattle.rules.specs.IdsUnique.{Grant, nonempty, blocks_of}
-use Rattle.history.specs.Logs.{hist}
 use Rattle.history.specs.Columns.{Column, cell_of, latest_in}
 use Rattle.history.specs.Places.{first_heads, key_heads, block_links, greatest_last, hold_heads}
 use Rattle.firsts.specs.Columns.{first_grant, FirstsIndexed}
@@ -36,13 +35,6 @@ last_after x h = greatest_of_lasts (blocks_of (x ∷ h))
 pub record IdsIndexed (cap : ℕ) (h : History) (work : List ℕ) : Type 0 where
   pub links : Column (cell_of block_link h) (block_links * cap) cap work
   pub lasts : Column (cell_of last_after h) (greatest_last * cap) cap work
-
--- a word in each of the two columns, for a record with a block or without one
-pub record Marked (cap count : ℕ) (block : Bool) (last : ℕ) (work work' : List ℕ) : Type 0 where
-  pub len : length work' ≡ length work
-  pub others : (j : ℕ) → (j ≡ block_links * cap + count → ⊥) → (j ≡ greatest_last * cap + count → ⊥) → get_or work' j 0 ≡ get_or work j 0
-  pub ids : (log : List ℕ) (x : TraceRecord) → block ≡ is_some (tells_block x (hist log count)) → last ≡ x.e
-      → IdsIndexed cap (hist log count) work → IdsIndexed cap (x ∷ hist log count) work'
 
 -- the columns of `IdsUnique` one record on. The chain of the firsts too, but for a RaftApply, which `GenerationsRise` enters
 pub record IdsNoted (cap : ℕ) (h : History) (x : TraceRecord) (work work' : List ℕ) : Type 0 where

@@ -1,58 +1,47 @@
-// A new block weighed against the older ones, in a walk from block to block.
-ghost use Rattle.std.specs.Prelude.{◌≡◌, false, cond, ◌&&◌, leb, ltb};
-ghost use Rattle.rules.specs.IdsUnique.{blocks_of};
-ghost use Rattle.ids_unique.specs.Columns.{IdsIndexed};
-ghost use Rattle.ids_unique.specs.Sharing.{weigh, weigh_all};
+// The blocks of the records taken: a walk from the newest on, and a new block weighed against the older ones.
+ghost use Rattle.std.specs.Prelude.{◌≡◌};
+ghost use Rattle.record.specs.Records.{decode};
+ghost use Rattle.rules.specs.IdsUnique.{grant_by, blocks_of};
 ghost use Rattle.history.specs.Pasts.{taken, Indexed};
+ghost use Rattle.ids_unique.specs.Columns.{IdsIndexed};
+ghost use Rattle.ids_unique.specs.Sharing.{shares_with, shared_top};
+ghost use Rattle.ids_unique.specs.Walks.{FromLatest};
 
 use crate::cells::block_below;
 use history::past::Past;
+use history::place::BLOCK_LINKS;
+use history::walk::Chain;
+use record::Record;
 use record::field::{d, e};
 
-// What a walk from block to block has found of a new block: whether one shares an id with it, and the greatest first not
-// above its last.
-#[derive(Clone, Copy)]
-pub struct Shared {
-    pub any: bool,
-    pub top: u64,
-}
-
-fn shares(first: u64, last: u64, from: u64, to: u64) -> bool
-    ensures { result ≡ leb from last && leb first to }
+// The records with a block, from the newest on. A word has the latest block with its own record, and a walk goes on to the
+// latest before: so the links begin one word before their column.
+pub fn blocks_taken<'a>(past: &Past<'a>) -> Chain<'a>
+    ensures { FromLatest past.now result }
 {
-    (from <= last) & (first <= to)
-}
-
-fn risen(top: u64, last: u64, from: u64) -> u64
-    ensures { result ≡ cond (leb from last && ltb top from) from top }
-{
-    if (from <= last) & (top < from) {
-        from
-    } else {
-        top
+    Chain {
+        log: past.log,
+        links: &past.work[BLOCK_LINKS * past.cap - 1..],
+        next: block_below(past, past.count),
     }
 }
 
-fn weighed(s: Shared, first: u64, last: u64, from: u64, to: u64) -> Shared
-    ensures { result ≡ weigh first last s from to }
+// Whether a record's block shares an id with one from first to last.
+fn shares(rec: &Record, first: u64, last: u64) -> bool
+    ensures { result ≡ shares_with first last (grant_by (decode rec.now)) }
 {
-    Shared {
-        any: s.any | shares(first, last, from, to),
-        top: risen(s.top, last, from),
-    }
+    (d(rec) <= last) & (first <= e(rec))
 }
 
-// Weighs every block against a new one.
-pub fn shared_with(past: &Past, first: u64, last: u64) -> Shared
-    ensures { Indexed IdsIndexed past.now → result ≡ weigh_all first last (record { any = false; top = 0 }) (blocks_of (taken past.now)) }
+// Where a block shares an id with one from first to last: the greatest first of a block that is not above the last.
+pub fn shared_with(past: &Past, first: u64, last: u64) -> Option<u64>
+    ensures { Indexed IdsIndexed past.now → result ≡ shared_top first last (blocks_of (taken past.now)) }
 {
-    let mut s = Shared { any: false, top: 0 };
-    let mut i = block_below(past.work, past.cap, past.count);
-    while 0 < i {
-        let at = i - 1;
-        let rec = past.record(at);
-        s = weighed(s, first, last, d(rec), e(rec));
-        i = block_below(past.work, past.cap, at);
+    if !blocks_taken(past).any(|old| shares(old.record, first, last)) {
+        return None;
     }
-    s
+    blocks_taken(past)
+        .map(|old| d(old.record))
+        .filter(|from| *from <= last)
+        .max()
 }

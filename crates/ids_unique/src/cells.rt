@@ -1,30 +1,34 @@
 // The columns of the blocks: the latest one and the greatest last, each as of every record.
-ghost use Rattle.std.specs.Prelude.{◌≡◌, List, ℕ, ◌*◌, ◌≤◌, length};
+ghost use Rattle.std.specs.Prelude.{◌≡◌, ◌≤◌};
 ghost use Rattle.rules.specs.IdsUnique.{blocks_of};
 ghost use Rattle.history.specs.Logs.{hist};
+ghost use Rattle.history.specs.Pasts.{Indexed};
 ghost use Rattle.ids_unique.specs.Columns.{IdsIndexed, latest_block, greatest_of_lasts};
 
-use history::chain::link;
+use history::past::Past;
 use history::place::{BLOCK_LINKS, GREATEST_LAST};
 
-// The number of the latest record with a block among the first n, 0 where there is none.
-pub fn block_below(work: &[u64], cap: usize, n: usize) -> usize
-    requires { (32 * cap ≤ length work.now) × ((n ≤ cap) × (cap ≤ 4096)) }
-    ensures { (result ≤ n) × ((log : List ℕ) (count : ℕ) → n ≤ count → count ≤ cap → IdsIndexed cap (hist log count) work.now → result ≡ latest_block (hist log n)) }
+// The number of the latest record with a block among the first n, 0 where there is none: as the words hold it.
+pub fn block_below(past: &Past, n: usize) -> usize
+    requires { n ≤ past.now.cap }
+    ensures below { result ≤ n }
+    ensures latest { n ≤ past.now.count → Indexed IdsIndexed past.now → result ≡ latest_block (hist past.now.log.now n) }
 {
     if n == 0 {
-        return 0;
+        0
+    } else {
+        past.number(BLOCK_LINKS, n - 1, n)
     }
-    link(work, BLOCK_LINKS * cap + (n - 1), n)
 }
 
-// The greatest last among the blocks of the first n records, 0 where there is none.
-pub fn greatest_last(work: &[u64], cap: usize, n: usize) -> u64
-    requires { (32 * cap ≤ length work.now) × ((n ≤ cap) × (cap ≤ 4096)) }
-    ensures { (log : List ℕ) (count : ℕ) → n ≤ count → count ≤ cap → IdsIndexed cap (hist log count) work.now → result ≡ greatest_of_lasts (blocks_of (hist log n)) }
+// The greatest last among the blocks of the first n records, 0 where there is none: as the words hold it.
+pub fn greatest_last(past: &Past, n: usize) -> u64
+    requires { n ≤ past.now.cap }
+    ensures { n ≤ past.now.count → Indexed IdsIndexed past.now → result ≡ greatest_of_lasts (blocks_of (hist past.now.log.now n)) }
 {
     if n == 0 {
-        return 0;
+        0
+    } else {
+        past.word(GREATEST_LAST, n - 1)
     }
-    work[GREATEST_LAST * cap + (n - 1)]
 }

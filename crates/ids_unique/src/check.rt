@@ -41,14 +41,10 @@ fn first_case(past: &Past, rec: &Record) -> Option<Fault>
     if last < first {
         return Some(Fault::new(2, &[b(rec)]));
     }
-    if greatest_last(past.work, past.cap, past.count) < first {
+    if greatest_last(past, past.count) < first {
         return None;
     }
-    let s = shared_with(past, first, last);
-    if s.any {
-        return Some(Fault::new(3, &[b(rec), s.top]));
-    }
-    None
+    shared_with(past, first, last).map(|top| Fault::new(3, &[b(rec), top]))
 }
 
 // The ids case of a record over the records taken.

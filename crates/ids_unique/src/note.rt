@@ -2,11 +2,11 @@
 ghost use Rattle.std.specs.Prelude.{◌≡◌, true, cond, ◌+◌, ◌*◌, ◌≤◌, ◌<◌, max, length};
 ghost use Rattle.record.specs.Records.{decode};
 ghost use Rattle.rules.specs.History.{is_some};
-ghost use Rattle.rules.specs.IdsUnique.{grant_by, nonempty};
+ghost use Rattle.rules.specs.IdsUnique.{grant_by, nonempty, blocks_of};
 ghost use Rattle.history.specs.Logs.{hist};
 ghost use Rattle.history.specs.Bounds.{Bounds};
 ghost use Rattle.firsts.specs.Columns.{FirstsIndexed, first_grant};
-ghost use Rattle.ids_unique.specs.Columns.{Marked, IdsNoted};
+ghost use Rattle.ids_unique.specs.Columns.{IdsIndexed, IdsNoted, latest_block, greatest_of_lasts};
 ghost use Rattle.history.specs.Pasts.{taken, Indexed};
 
 use crate::cells::{block_below, greatest_last};
@@ -33,46 +33,23 @@ fn is_full(rec: &Record) -> bool
     d(rec) <= e(rec)
 }
 
-// The latest block and the greatest last after a record.
-fn link_after(block: bool, count: usize, below: usize) -> u64
-    requires { count < 4096 }
-    ensures { result ≡ cond block (count + 1) below }
+// The number of the latest record with a block, after one that has one or none.
+fn link_after(past: &Past, block: bool) -> u64
+    ensures { Indexed IdsIndexed past.now → result ≡ cond block (past.now.count + 1) (latest_block (taken past.now)) }
 {
     if block {
-        return (count + 1) as u64;
+        past.count as u64 + 1
+    } else {
+        block_below(past, past.count) as u64
     }
-    below as u64
 }
 
-fn last_after(block: bool, last: u64, top: u64) -> u64
-    ensures { result ≡ cond block (max last top) top }
+// The greatest last of a block, after a record that has one or none.
+fn last_after(past: &Past, block: bool, last: u64) -> u64
+    ensures { Indexed IdsIndexed past.now → result ≡ cond block (max last (greatest_of_lasts (blocks_of (taken past.now)))) (greatest_of_lasts (blocks_of (taken past.now))) }
 {
-    if block {
-        if top < last {
-            return last;
-        }
-        return top;
-    }
-    top
-}
-
-// The words of a record, with a block or without one.
-fn mark(work: &mut [u64], count: usize, cap: usize, block: bool, last: u64)
-    requires { (32 * cap ≤ length work.old) × ((count < cap) × (cap ≤ 4096)) }
-    ensures { Marked cap count block last work.old work.new }
-{
-    let below = block_below(work, cap, count);
-    let top = greatest_last(work, cap, count);
-    put(
-        work,
-        BLOCK_LINKS * cap + count,
-        link_after(block, count, below),
-    );
-    put(
-        work,
-        GREATEST_LAST * cap + count,
-        last_after(block, last, top),
-    );
+    let top = greatest_last(past, past.count);
+    if block { top.max(last) } else { top }
 }
 
 // Takes a record, after those taken, into the columns of `IdsUnique`.
@@ -80,16 +57,18 @@ pub fn note(log: &[u8], work: &mut [u64], count: usize, cap: usize, rec: &Record
     requires { Bounds log.now work.old count cap × (count < cap) }
     ensures { IdsNoted cap (hist log.now count) (decode rec.now) work.old work.new }
 {
-    let first = is_first(
-        &Past {
-            log,
-            work,
-            count,
-            cap,
-        },
-        rec,
-    );
-    mark(work, count, cap, first & is_full(rec), e(rec));
+    let past = Past {
+        log,
+        work,
+        count,
+        cap,
+    };
+    let first = is_first(&past, rec);
+    let block = first & is_full(rec);
+    let link = link_after(&past, block);
+    let last = last_after(&past, block, e(rec));
+    put(work, BLOCK_LINKS * cap + count, link);
+    put(work, GREATEST_LAST * cap + count, last);
     if first {
         enter_grant(work, count, cap, rec);
     }

@@ -65,8 +65,8 @@ fn answer(past: &Past, question: Question, out: &mut [u64]) -> Option<usize>
             let first = first_at_generation(past, range, generation);
             Some(found_number(first))
         }
-        Question::Statements => Some(statements(past.work, past.count, past.cap) as usize),
-        Question::IsEmpty => Some(truth(is_empty(past.work, past.count, past.cap))),
+        Question::Statements => Some(statements(past) as usize),
+        Question::IsEmpty => Some(truth(is_empty(past))),
         Question::HoldersOf(id) => holders_of(past, id, out),
         Question::Blocks => blocks(past, out),
     }

@@ -1,43 +1,35 @@
--- A walk along the first values of generations: the one of the range and generation is the earliest standing value of both.
-use Prim.Native.Nat.{◌-◌}
-use mathlib.Core.Path.{sym, ◌∙◌, refl}
-use native.Mathlib.Omega.{arith}
-use Rattle.rules.specs.Descriptors.{first_at_generation}
-use Rattle.history.proofs.Chains.{stands_first, stands_next}
-use Rattle.history.proofs.Logs.{record_length}
+-- What is found is the first value of the range and generation; what was passed over is none.
+use mathlib.Core.Path.{refl, sym}
+use mathlib.Core.Bool.{Bool}
+use Prim.Native.Nat.{ℕ}
+use Rattle.std.proofs.Common.{rules}
+use borrow.Author.Tests.{tests}
+use Rattle.history.specs.declared.walk.Taken.{Taken}
 use Rattle.history.specs.Logs.{hist}
-use Rattle.descriptors.proofs.Walks.{generation_skip, generation_hit, generation_miss, generation_end, of_is}
+use Rattle.history.proofs.Pasts.{on_first}
+use Rattle.history.proofs.Finds.{find_taken, find_is}
+use Rattle.rules.specs.Descriptors.{first_at_generation}
+use Rattle.descriptors.specs.Columns.{put_entry, put}
+use Rattle.descriptors.specs.Answers.{of_generation}
+use Rattle.descriptors.proofs.Walks.{generation_skip, generation_hit, generation_miss, generation_end}
 use Rattle.descriptors.proofs.value.first_of.Goals as goal
 
-pub loop-i-init : goal.loop-i-init
-loop-i-init c = let a = c.args in (
-  c.generation_top-i.ensures.0,
-  λ k.
-      stands_first (λ n. first_at_generation a.range a.generation (hist a.past.now.log.now n)) (generation_skip a.past.now.cap a.range a.generation a.past.now.log.now) k.generation
-      (omega (arith, c.bucket_by_two.ensures)) (refl) (omega (arith, c.bucket_by_two.ensures)) c.generation_top-i.ensures.1,
-)
+-- the closure's test
+abbrev passes : ℕ → ℕ → Taken → Bool
+passes range generation old = of_generation range generation (put_entry old)
 
-pub returns-then-is_of : goal.returns-then-is_of
-returns-then-is_of c = let a = c.args in
-    let l = c.loop-i in (
-      omega arith,
-      λ k.
-          sym ((l.invariant.1 k).same ∙ generation_hit a.past.now.cap a.range a.generation a.past.now.log.now l.i (omega arith) ((l.invariant.1 k).here (omega arith))
-          (of_is a.past.now.log.now (l.i - 1) c.record.ensures a.range a.generation c.is_of.ensures) c.if-is_of.true),
-    )
+pub returns-clause-found : goal.returns-clause-found
+returns-clause-found c =
+    find_taken {test = passes c.args.range c.args.generation} (λ x b q k. search (rules, tests)) _ _ (on_first c.chain.ensures) c.find.ensures.ran
 
-pub loop-i-preserved : goal.loop-i-preserved
-loop-i-preserved c = let a = c.args in
-    let l = c.loop-i in (
-      omega (arith, c.generation_below-i.ensures.0),
-      λ k.
-          stands_next (λ n. first_at_generation a.range a.generation (hist a.past.now.log.now n)) (generation_skip a.past.now.cap a.range a.generation a.past.now.log.now) k.generation
-          (omega arith) (omega arith) ((l.invariant.1 k).here (omega arith))
-          ((l.invariant.1 k).same ∙ generation_miss a.past.now.cap a.range a.generation a.past.now.log.now l.i (omega arith) ((l.invariant.1 k).here (omega arith))
-          (of_is a.past.now.log.now (l.i - 1) c.record.ensures a.range a.generation c.is_of.ensures) c.if-is_of.false)
-          (omega arith) c.generation_below-i.ensures.1,
-    )
-
-pub returns : goal.returns
-returns c = let a = c.args in
-    let l = c.loop-i in (omega arith, λ k. sym ((l.invariant.1 k).same ∙ generation_end a.past.now.cap a.range a.generation a.past.now.log.now l.i (omega arith)))
+pub returns-clause-first : goal.returns-clause-first
+returns-clause-first c = λ k.
+    let a = c.args in
+    let p = a.past.now in
+    find_is {test = passes a.range a.generation} (λ x b q k. search (rules, tests)) (λ (n : ℕ). first_at_generation a.range a.generation (hist p.log.now n))
+    (rw c.bucket_by_two-bucket.ensures.0 (generation_skip p.cap a.range a.generation p.log.now)) k.generation
+    (λ y t n. generation_miss p.cap a.range a.generation t n)
+    put
+    (sym (generation_end p.cap a.range a.generation p.log.now))
+    (λ y t w n. sym (generation_hit p.cap a.range a.generation t w n))
+    _ _ refl c.bucket_by_two-bucket.ensures.1 c.chain.ensures c.find.ensures.ran

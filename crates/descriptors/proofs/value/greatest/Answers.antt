@@ -1,67 +1,77 @@
--- A walk along the range's standing values: the best so far, weighed against the greatest of the rest, stays the greatest of all,
--- and past a marked one that passes the rest is below it.
-use Prim.Native.Nat.{◌-◌}
-use mathlib.Core.Path.{sym}
-use native.Mathlib.Omega.{arith}
-use Rattle.history.proofs.Chains.{stands_first, stands_next}
-use Rattle.history.proofs.Logs.{record_length}
-use Rattle.history.proofs.Queries.{greater_none}
+-- The walk to the greatest: each value that passes is weighed against the best so far, and past a marked one that passes the rest
+-- is below it.
+use mathlib.Core.Path.{sym, ◌∙◌}
+use Rattle.std.proofs.Common.{rules}
+use borrow.Author.Tests.{tests}
+use lib.Dec.{ltb}
+use Rattle.history.specs.Weighing.{greater_of}
+use Rattle.history.proofs.Pasts.{on_first, on_next, taken_on, along_turn}
 use Rattle.descriptors.specs.Answers.{up_to}
 use Rattle.descriptors.proofs.Rising.{greatest_stop}
-use Rattle.descriptors.proofs.Walks.{Greatest, greatest_skip, greatest_next, greatest_done, up_to_is, up_to_range}
+use Rattle.descriptors.proofs.Walks.{greatest_weighs, weighs_first, weighs_taken, weighs_passed, weighs_next, weighs_done, up_to_range}
 use Rattle.descriptors.proofs.value.greatest.Goals as goal
 
-pub loop-i-init : goal.loop-i-init
-loop-i-init c = let a = c.args in (
-  c.standing_top-i.ensures.0,
-  (
-    omega arith,
+pub loop-old-init : goal.loop-old-init
+loop-old-init c =
+    let a = c.args in
+    let z = rw (← c.into_iter-old-iterator.ensures.into_iter_gives) at c.standing-old-items.ensures in
+    (on_first z, (tt, λ k. weighs_first (greatest_weighs (up_to a.range a.index a.generation)) (up_to_range a.range a.index a.generation) a.past.now k z))
+
+pub returns-then-is_rising-clause-greatest : goal.returns-then-is_rising-clause-greatest
+unfolding greater_of
+returns-then-is_rising-clause-greatest c =
+    let a = c.args in
+    let p = a.past.now in
+    let W = greatest_weighs (up_to a.range a.index a.generation) in
+    let R = up_to_range a.range a.index a.generation in
+    let e = c.in-Some.ensures.steps in
+    let t = taken_on c.loop-old.invariant.0 e in
+    let passes = sym c.is_up_to.ensures ∙ c.if-is_up_to.true in
+    let better = c.better-best.ensures.better (λ kept next. ltb next kept) (λ x y b k. search (rules, tests)) in
     λ k.
-        stands_first (Greatest a.past.now.cap a.range a.past.now.log.now (up_to a.range a.free a.index a.any a.generation) 0)
-        (greatest_skip a.past.now.cap a.range a.past.now.log.now (up_to a.range a.free a.index a.any a.generation)
-        (up_to_range a.range a.free a.index a.any a.generation) 0) k.standing
-        (omega (arith, c.bucket_by.ensures)) (sym (greater_none (λ v. v.index) _)) (omega (arith, c.bucket_by.ensures)) c.standing_top-i.ensures.1,
-  ),
-)
+    let stands = c.loop-old.invariant.1.1 k in
+    greatest_stop k t (along_turn e stands).here a.range a.index a.generation c.loop-old.best c.better-best.result passes
+    (sym c.is_rising.ensures ∙ c.if-is_rising.true) better
+    (weighs_taken W R p k c.loop-old.invariant.0 e stands passes better)
 
-pub returns-then-passes-is_rising : goal.returns-then-passes-is_rising
-returns-then-passes-is_rising c = let a = c.args in
-    let l = c.loop-i in (
-      c.greater-best.ensures.1 _ (omega arith) (omega arith),
-      λ k.
-          greatest_stop a.past.now.cap a.past.now.log.now a.past.now.work.now a.past.now.count (l.i - 1) (omega arith) (omega arith) (omega arith) k ((l.invariant.1.1 k).here (omega arith))
-          a.range (up_to a.range a.free a.index a.any a.generation) l.best c.greater-best.result (up_to_range a.range a.free a.index a.any a.generation)
-          (up_to_is a.past.now.log.now (l.i - 1) c.record.ensures a.range a.free a.index a.any a.generation c.is_up_to-passes.ensures)
-          c.is_rising.ensures c.if-passes-is_rising.true c.greater-best.ensures.0
-          (greatest_next a.past.now.cap a.range a.past.now.log.now (up_to a.range a.free a.index a.any a.generation) l.best c.greater-best.result l.i (omega arith)
-          ((l.invariant.1.1 k).here (omega arith))
-          (l.invariant.1.1 k).same (up_to_is a.past.now.log.now
-          (l.i - 1) c.record.ensures a.range a.free a.index a.any a.generation c.is_up_to-passes.ensures) c.greater-best.ensures.0),
-    )
-
-pub loop-i-preserved : goal.loop-i-preserved
-loop-i-preserved c = let a = c.args in
-    let l = c.loop-i in (
-      omega (arith, c.standing_below-i.ensures.0),
+pub loop-old-preserved-else-is_rising : goal.loop-old-preserved-else-is_rising
+unfolding greater_of
+loop-old-preserved-else-is_rising c =
+    let a = c.args in
+    let p = a.past.now in
+    let W = greatest_weighs (up_to a.range a.index a.generation) in
+    let R = up_to_range a.range a.index a.generation in
+    let o = c.loop-old.invariant.0 in
+    let e = c.in-Some.ensures.steps in
+    let passes = sym c.is_up_to.ensures ∙ c.if-is_up_to.true in
+    let better = c.better-best.ensures.better (λ kept next. ltb next kept) (λ x y b k. search (rules, tests)) in (
+      on_next o e,
       (
-        c.greater-best.ensures.1 _ (omega arith) (omega arith),
+        c.better-best.ensures.found p c.loop-old.invariant.1.0 (taken_on o e),
         λ k.
-            stands_next (Greatest a.past.now.cap a.range a.past.now.log.now (up_to a.range a.free a.index a.any a.generation) c.greater-best.result)
-            (greatest_skip a.past.now.cap a.range a.past.now.log.now (up_to a.range a.free a.index a.any a.generation)
-            (up_to_range a.range a.free a.index a.any a.generation) c.greater-best.result) k.standing
-            (omega arith) (omega arith) ((l.invariant.1.1 k).here (omega arith))
-            (greatest_next a.past.now.cap a.range a.past.now.log.now (up_to a.range a.free a.index a.any a.generation) l.best c.greater-best.result l.i (omega arith)
-            ((l.invariant.1.1 k).here (omega arith))
-            (l.invariant.1.1 k).same (up_to_is a.past.now.log.now
-            (l.i - 1) c.record.ensures a.range a.free a.index a.any a.generation c.is_up_to-passes.ensures) c.greater-best.ensures.0)
-            (omega arith) c.standing_below-i.ensures.1,
+            let stands = c.loop-old.invariant.1.1 k in weighs_next W R p k o e stands (weighs_taken W R p k o e stands passes better),
       ),
     )
 
-pub returns : goal.returns
-returns c = let a = c.args in
-    let l = c.loop-i in (
-      l.invariant.1.0,
-      λ k. greatest_done a.past.now.cap a.range a.past.now.log.now (up_to a.range a.free a.index a.any a.generation) l.best l.i (omega arith)
-          (l.invariant.1.1 k).same,
+pub loop-old-preserved : goal.loop-old-preserved
+loop-old-preserved c =
+    let a = c.args in
+    let p = a.past.now in
+    let W = greatest_weighs (up_to a.range a.index a.generation) in
+    let R = up_to_range a.range a.index a.generation in
+    let o = c.loop-old.invariant.0 in
+    let e = c.in-Some.ensures.steps in
+    let passes_not = sym c.is_up_to.ensures ∙ c.if-is_up_to.false in (
+      on_next o e,
+      (
+        c.loop-old.invariant.1.0,
+        λ k.
+            let stands = c.loop-old.invariant.1.1 k in weighs_next W R p k o e stands (weighs_passed W R p k o e stands passes_not),
+      ),
     )
+
+pub returns-clause-greatest : goal.returns-clause-greatest
+returns-clause-greatest c =
+    let a = c.args in
+    λ k. weighs_done (greatest_weighs (up_to a.range a.index a.generation)) (up_to_range a.range a.index a.generation) a.past.now k
+    c.in-None.ensures.steps.0 (c.loop-old.invariant.1.1 k)

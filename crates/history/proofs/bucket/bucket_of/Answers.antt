@@ -1,9 +1,9 @@
 -- A mixed number is below 2^32, so its product with C fits, and its share of C is below C.
 use mathlib.Core.Path.{refl}
 use native.Mathlib.Omega.{arith}
-use native.Mathlib.Nat.{mul-le-mul_left, div-lt_iff_lt-mul}
+use native.Mathlib.Nat.{mul-le-mul_left}
 use Rattle.history.specs.Buckets.{bucket}
-use Rattle.history.proofs.Mixing.{share}
+use Rattle.history.proofs.Mixing.{bucket_below}
 use Rattle.history.proofs.bucket.bucket_of.Goals as goal
 
 pub overflow_mul-result : goal.overflow_mul-result
@@ -11,4 +11,4 @@ overflow_mul-result c = let l = mul-le-mul_left c.args.m c.requires.1.0 in omega
 
 pub returns : goal.returns
 unfolding bucket
-returns c = (refl, (div-lt_iff_lt-mul {k = 4294967296} (omega arith)).1 (share _ _ c.requires.0 c.requires.1.1))
+returns c = (refl, bucket_below _ _ c.requires.0 c.requires.1.1)

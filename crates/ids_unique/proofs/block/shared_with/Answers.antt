@@ -1,35 +1,41 @@
--- A walk from block to block: what is weighed so far, with what is still to weigh, is what all weigh.
-use mathlib.Core.Path.{refl, sym}
-use mathlib.Core.Bool.{false}
-use native.Mathlib.Omega.{arith}
-use Rattle.record.specs.Records.{TraceRecord}
-use Rattle.ids_unique.specs.Sharing.{weigh_all}
-use Rattle.firsts.proofs.Grants.{read_at}
-use Rattle.ids_unique.proofs.Blocks.{blocks_skip, block_stands}
-use Rattle.ids_unique.proofs.Sharing.{share_turn, share_end}
+-- Whether a block shares an id, and then the greatest first, in two walks.
+use mathlib.Core.Path.{sym, ◌∙◌}
+use mathlib.Core.Bool.{Bool}
+use Prim.Native.Nat.{ℕ}
+use lib.Dec.{leb}
+use borrow.Author.Tests.{tests}
+use Rattle.std.proofs.Common.{rules}
+use Rattle.std.proofs.lemmas.Iterator.{YieldsList-from_map}
+use Rattle.std.proofs.lemmas.Iterator.Adapters.{option_map_id}
+use Rattle.std.proofs.lemmas.Iterator.Consumers.{YieldsList-at, YieldsList-from_filter, max_from_yields_List}
+use Rattle.std.proofs.lemmas.Iterator.Search.{any_from_yields_List}
+use Rattle.ids_unique.specs.Sharing.{shares_with}
+use Rattle.ids_unique.proofs.Walks.{Numbered, walk_yields}
+use Rattle.ids_unique.proofs.Sharing.{shared_none, shared_some}
 use Rattle.ids_unique.proofs.block.shared_with.Goals as goal
 
-pub loop-i-init : goal.loop-i-init
-loop-i-init c =
-    let a = c.args in (
-      c.block_below-i.ensures.0,
-      λ k. block_stands a.past.now.log.now _ (blocks_skip a.past.now.log.now (weigh_all a.first a.last (record { any = false; top = 0 }))) refl
-          (c.block_below-i.ensures.1 a.past.now.log.now a.past.now.count (omega arith) (omega arith) k),
-    )
+abbrev test : ℕ → ℕ → Numbered → Bool
+test first last b = shares_with first last b.1
 
-pub loop-i-preserved : goal.loop-i-preserved
-loop-i-preserved c =
+pub returns-then-not-any : goal.returns-then-not-any
+returns-then-not-any c =
     let a = c.args in
-    let r = c.record-rec.ensures in (
-      omega (arith, c.block_below-i-in-loop-i.ensures.0),
-      λ k. block_stands a.past.now.log.now _ (blocks_skip a.past.now.log.now (weigh_all a.first a.last c.weighed-s.result))
-          (share_turn a.first a.last a.past.now.log.now c.loop-i.s (omega arith) ((c.loop-i.invariant.1 k).here (omega arith))
-          (read_at (λ (x : TraceRecord). x.d) _ _ r c.d.ensures)
-          (read_at (λ (x : TraceRecord). x.e) _ _ r c.e.ensures)
-          c.weighed-s.ensures
-          (c.loop-i.invariant.1 k).same)
-          (c.block_below-i-in-loop-i.ensures.1 a.past.now.log.now a.past.now.count (omega arith) (omega arith) k),
-    )
+    λ k. shared_none a.first a.last a.past.now.log.now a.past.now.count
+    (any_from_yields_List (test a.first a.last) _ _ _ c.any.ensures.ran (walk_yields a.past.now k c.blocks_taken.ensures) (λ x b q k. search (rules, tests)))
+    c.if-not-any.true
 
 pub returns : goal.returns
-returns c = λ k. sym (share_end _ _ _ (omega arith) (c.loop-i.invariant.1 k).same)
+returns c =
+    let a = c.args in
+    λ k. shared_some a.first a.last a.past.now.log.now a.past.now.count
+    (any_from_yields_List (test a.first a.last) _ _ _ c.any.ensures.ran (walk_yields a.past.now k c.blocks_taken.ensures) (λ x b q k. search (rules, tests)))
+    c.if-not-any.false
+    (sym (option_map_id _)
+    ∙ max_from_yields_List _ _ c.max.ensures.ran
+    (YieldsList-from_filter _ (λ f. leb f a.last)
+    (YieldsList-at c.filter.ensures.source
+    (YieldsList-from_map _ (λ (b : Numbered). b.1.first) (YieldsList-at c.map.ensures.source (walk_yields a.past.now k c.blocks_taken-2.ensures))
+    c.map.ensures.closure
+    (λ x r q k. search (rules, tests))))
+    c.filter.ensures.closure
+    (λ x b q k. search (rules, tests))))

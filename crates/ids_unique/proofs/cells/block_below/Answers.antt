@@ -4,8 +4,8 @@ use native.Mathlib.Omega.{arith}
 use Rattle.ids_unique.proofs.Blocks.{link_is, link_none}
 use Rattle.ids_unique.proofs.cells.block_below.Goals as goal
 
-pub returns-then-n-eq0 : goal.returns-then-n-eq0
-returns-then-n-eq0 c = (omega arith, λ log count l m k. link_none log l m k c.if-n-eq0.true)
+pub returns-then-n-eq0-clause-latest : goal.returns-then-n-eq0-clause-latest
+returns-then-n-eq0-clause-latest c = λ l k. link_none _ l c.args.past.now.within k c.if-n-eq0.true
 
-pub returns : goal.returns
-returns c = (c.link.ensures.0, λ log count l m k. c.link.ensures.1 ∙ link_is log l m k (omega arith))
+pub returns-else-n-eq0-clause-latest : goal.returns-else-n-eq0-clause-latest
+returns-else-n-eq0-clause-latest c = λ l k. c.number.ensures.1 ∙ link_is _ l c.args.past.now.within k (omega arith)

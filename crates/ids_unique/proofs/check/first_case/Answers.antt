@@ -1,10 +1,11 @@
 -- Empty; above the greatest last; or what the walk found.
+use Rattle.std.proofs.Common.{rules}
 use Rattle.std.specs.Prelude.{Some}
-use mathlib.Core.Path.{ap, ◌∙◌}
+use mathlib.Core.Path.{ap}
 use native.Mathlib.Omega.{arith}
 use Rattle.record.specs.Records.{decode}
 use Rattle.rules.specs.IdsUnique.{grant_by}
-use Rattle.ids_unique.proofs.Cases.{empty_case, apart_case, walk_case, shared_fault_lem, shared_clear}
+use Rattle.ids_unique.proofs.Cases.{empty_case, apart_case, walk_case}
 use Rattle.ids_unique.proofs.check.first_case.Goals as goal
 
 pub returns-then-last-first : goal.returns-then-last-first
@@ -19,17 +20,10 @@ pub returns-then-greatest_last-first : goal.returns-then-greatest_last-first
 returns-then-greatest_last-first c =
     let a = c.args in
     λ k. apart_case (grant_by (decode a.rec.now)) _ c.d-first.ensures c.e-last.ensures c.if-last-first.false
-    (c.greatest_last.ensures a.past.now.log.now a.past.now.count (omega arith) (omega arith) k)
+    (c.greatest_last.ensures (omega arith) k)
     c.if-greatest_last-first.true
-
-pub returns-then-s : goal.returns-then-s
-returns-then-s c =
-    let g = grant_by (decode c.args.rec.now) in
-    λ k. shared_fault_lem g _ c.if-s.true c.b-then-s.ensures (ap Some c.new-then-s.ensures)
-    ∙ walk_case g _ c.d-first.ensures c.e-last.ensures c.if-last-first.false (c.shared_with-s.ensures k)
 
 pub returns : goal.returns
 returns c =
-    let g = grant_by (decode c.args.rec.now) in
-    λ k. shared_clear g _ c.if-s.false
-    ∙ walk_case g _ c.d-first.ensures c.e-last.ensures c.if-last-first.false (c.shared_with-s.ensures k)
+    λ k. walk_case (grant_by (decode c.args.rec.now)) _ c.d-first.ensures c.e-last.ensures c.if-last-first.false (c.shared_with.ensures k)
+    (search rules)
