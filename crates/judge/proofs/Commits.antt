@@ -1,4 +1,5 @@
 -- Commits: a commit that 10 does not refuse is a push of its record. Assumes nothing.
+use Rattle.std.specs.Prelude.{Ok, Err}
 use mathlib.Core.Path.{◌≡◌, refl, sym, ap, ◌∙◌, subst}
 use mathlib.Core.Bool.{Bool, true, false, cond, not, ◌&&◌}
 use mathlib.Core.List.{List}
@@ -16,7 +17,7 @@ use Rattle.decision.specs.Refusals.{suits_by, or_next, refusal_after}
 use Rattle.intake.specs.Words.{Indexed}
 use Rattle.judge.specs.declared.push.Pushed as Answer
 use Rattle.judge.specs.declared.state.Judge.{Judge}
-use Rattle.judge.specs.declared.state.Refusal.TheVariants.{Ticket as Stale}
+use Rattle.decision.specs.declared.refusal.Refusal.TheVariants.{Ticket as Stale}
 use Rattle.judge.specs.declared.ticket.Ticket.{Ticket}
 use Rattle.judge.specs.Tickets.{ticket_of, no_ticket}
 use Rattle.judge.specs.States.{State, suits, push_refusal, commit_refusal, takes}
@@ -121,10 +122,10 @@ module _ (j i : Judge) (log work : List ℕ) (k : Ticket) {holds : Bool} (u : ho
       ap (λ (b : Bool). b && not (eqb k.count i.count))
       (u ∙ ap (λ (x : Judge). suits_by x.capacity x.count (length log) (length work)) (sym v))
 
-  pub committed_stale : (holds && not (eqb k.count i.count)) ≡ true → CommittedBy j log work k (record { refusal = Stale; judge = i }) log work
+  pub committed_stale : (holds && not (eqb k.count i.count)) ≡ true → CommittedBy j log work k (record { outcome = Err Stale; judge = i }) log work
   committed_stale e =
       let q : commit_refusal (state_of i log work) k ≡ 10 = stale_refusal (state_of i log work) k (sym tested ∙ e) in
-      subst (λ (x : Judge). CommittedBy x log work k (record { refusal = Stale; judge = i }) log work) v
+      subst (λ (x : Judge). CommittedBy x log work k (record { outcome = Err Stale; judge = i }) log work) v
       (record {
         refusal = sym q;
         leaves = record { refused = λ x. refl; taken = λ x. never x (ap (λ (n : ℕ). eqb n 0) q) };

@@ -1,5 +1,4 @@
 -- What is proved of the judge besides its functions: the refusals, what one call leaves, shows or answers, and a trace's records.
-pub mod Refusals
 pub mod Suiting
 pub mod Pushes
 pub mod Lookups

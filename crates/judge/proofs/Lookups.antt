@@ -1,6 +1,6 @@
 -- A look-up's ways to answer: refused, of no capacity and so of no records, too long for the list, and given. Assumes nothing.
 use Rattle.std.proofs.lemmas.Option.{none-some}
-use Rattle.std.specs.Prelude.{None, Some}
+use Rattle.std.specs.Prelude.{None, Some, Ok, Err}
 use mathlib.Core.Path.{◌≡◌, refl, sym, ap, ◌∙◌, subst}
 use mathlib.Core.Bool.{Bool, true, false, cond}
 use mathlib.Core.List.{List, [], ◌++◌}
@@ -20,7 +20,7 @@ use Rattle.judge.specs.declared.lookup.Looked.{Looked}
 use Rattle.judge.specs.declared.lookup.Question.{Question}
 use Rattle.judge.specs.declared.lookup.Question.TheVariants.{Before, At, FirstAtGeneration, Statements, IsEmpty, HoldersOf, Blocks}
 use Rattle.judge.specs.declared.state.Judge.{Judge}
-use Rattle.judge.specs.declared.state.Refusal.TheVariants.{Nothing, Judge as Unfit, Output}
+use Rattle.decision.specs.declared.refusal.Refusal.TheVariants.{Judge as Unfit, Output}
 use Rattle.intake.specs.Words.{Indexed}
 use Rattle.judge.specs.Lookups.{value_of, words_of, writes, ListedBy, lends, Answered, LookedBy}
 use Rattle.decision.proofs.Suiting.{Suiting, suiting}
@@ -105,19 +105,19 @@ module _ (q : Question) (j : Judge) (log work out : List ℕ) where
   taken = hist log j.count
 
   pub looked_refused : {v : ℕ} → lends j log work ≡ false → v ≡ value_of q []
-      → LookedBy q j log work out out (record { refusal = Unfit; judge = j; value = v })
+      → LookedBy q j log work out out (record { outcome = Err Unfit; judge = j; value = v })
   looked_refused e v = record { judge = refl; refused = λ x. (refl, v, refl); lent = λ x. never x e; bare = λ x w. never x e; answered = λ x i. never x e }
 
   -- of no capacity there are no records
   pub looked_none : {v : ℕ} → lends j log work ≡ true → j.capacity ≡ 0 → v ≡ value_of q []
-      → LookedBy q j log work out out (record { refusal = Nothing; judge = j; value = v })
+      → LookedBy q j log work out out (record { outcome = Ok tt; judge = j; value = v })
   looked_none {v} e z a =
       let s : Suiting j.capacity j.count (length log) (length work) = suiting e in
       let l : j.count ≤ j.capacity = s.within in
       let k : j.count ≡ 0 = omega arith in
       let h : taken ≡ [] = ap (hist log) k ∙ hist_none log in
       let t : too_short (words_of q []) out ≡ false = ap (λ (ws : List ℕ). too_short ws out) (none_words q) ∙ none_fit out in
-      let none : Answered q [] out out (record { refusal = Nothing; judge = j; value = v }) = record {
+      let none : Answered q [] out out (record { outcome = Ok tt; judge = j; value = v }) = record {
         refusal = ap (λ (b : Bool). cond b 8 0) (sym t);
         value = a ∙ ap (λ (b : Bool). cond b 0 (value_of q [])) (sym t);
         list = sym (ap (λ (b : Bool). cond b out (words_of q [] ++ drop (length (words_of q [])) out)) t
@@ -128,11 +128,11 @@ module _ (q : Question) (j : Judge) (log work out : List ℕ) where
         refused = λ x. never e x;
         lent = λ x. inl refl;
         bare = λ x w. (refl, refl);
-        answered = λ x i. subst (λ (g : History). Answered q g out out (record { refusal = Nothing; judge = j; value = v })) (sym h) none;
+        answered = λ x i. subst (λ (g : History). Answered q g out out (record { outcome = Ok tt; judge = j; value = v })) (sym h) none;
       }
 
   module _ {out' : List ℕ} {l : Listed} (e : lends j log work ≡ true) (g : ListedBy q j.capacity log work j.count out out' l) where
-    pub looked_short : l ≡ None → LookedBy q j log work out out' (record { refusal = Output; judge = j; value = 0 })
+    pub looked_short : l ≡ None → LookedBy q j log work out out' (record { outcome = Err Output; judge = j; value = 0 })
     looked_short s = record {
       judge = refl;
       refused = λ x. never e x;
@@ -147,7 +147,7 @@ module _ (q : Question) (j : Judge) (log work out : List ℕ) where
           };
     }
 
-    pub looked_given : {k : ℕ} → l ≡ Some k → LookedBy q j log work out out' (record { refusal = Nothing; judge = j; value = k })
+    pub looked_given : {k : ℕ} → l ≡ Some k → LookedBy q j log work out out' (record { outcome = Ok tt; judge = j; value = k })
     looked_given {k} s = record {
       judge = refl;
       refused = λ x. never e x;

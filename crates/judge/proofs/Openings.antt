@@ -1,4 +1,5 @@
 -- Opening: the capacity asked is the one that fits, and an opening leaves the state after no records. Assumes nothing.
+use Rattle.std.specs.Prelude.{Ok, Err}
 use mathlib.Core.Path.{◌≡◌, refl, sym, ap, ◌∙◌, subst}
 use mathlib.Core.Bool.{Bool, true, false, not, ◌||◌}
 use mathlib.Core.List.{List, []}
@@ -24,7 +25,7 @@ use Rattle.splits.proofs.Openings.{half_clear}
 use Rattle.judge.specs.declared.opening.Opened.{Opened}
 use Rattle.judge.specs.declared.state.Judge.{Judge}
 use Rattle.judge.specs.declared.state.Tested.{Tested}
-use Rattle.judge.specs.declared.state.Refusal.TheVariants.{Nothing, Opening as Unopened}
+use Rattle.decision.specs.declared.refusal.Refusal.TheVariants.{Opening as Unopened}
 use Rattle.judge.specs.States.{suits}
 use Rattle.judge.specs.Openings.{Fits, fresh_of, Opens}
 use Rattle.decision.specs.Refusals.{suits_by}
@@ -94,11 +95,11 @@ module _ (o : Opening) (logs : ℕ) (work : List ℕ) {j : Judge} {t : Tested} (
       λ i. not (h i) || z i
 
   pub asked_refused : {k : Judge} → (not t.holds || eqb (logs / 368) 0) ≡ true → k ≡ fresh_of 0 o
-      → Opens o logs work (record { refusal = Unopened; judge = k }) work
+      → Opens o logs work (record { outcome = Err Unopened; judge = k }) work
   asked_refused e g = record { refused = λ none. (refl, g, refl); opened = λ c f. never e (holds_then c f) }
 
   pub asked_opened : {work' : List ℕ} → (not t.holds || eqb (logs / 368) 0) ≡ false → work' ≡ replicate (length work) 0
-      → Opens o logs work (record { refusal = Nothing; judge = t.judge }) work'
+      → Opens o logs work (record { outcome = Ok tt; judge = t.judge }) work'
   asked_opened e w =
       let b = both t.holds (eqb (logs / 368) 0) e in
       let s : Suiting (logs / 368) 0 logs (length work) = suiting (sym tested ∙ b.0) in

@@ -1,6 +1,6 @@
 -- A preview: what the core's answer shows. Assumes nothing.
-use mathlib.Core.Path.{◌≡◌, sym, ap, ◌∙◌}
-use mathlib.Core.Bool.{Bool, cond}
+use mathlib.Core.Path.{◌≡◌, refl, sym, ap, ◌∙◌}
+use mathlib.Core.Bool.{Bool, false, cond}
 use mathlib.Core.List.{List}
 use Prim.Native.Nat.{ℕ}
 use lib.Dec.{eqb}
@@ -9,6 +9,9 @@ use Rattle.rules.specs.declared.Report.{Report}
 use Rattle.record.proofs.Booleans.{never}
 use Rattle.rows.specs.Rows.{reports_in}
 use Rattle.intake.specs.Takes.{PreviewsIn}
+use Rattle.decision.specs.declared.refusal.Refusal.{Refusal}
+use Rattle.decision.specs.declared.refusal.Refusal.TheVariants.{Length, Kind, Value, Unused, Judge as Unfit, Full, Opening, Output, Ticket as Stale, Event}
+use Rattle.decision.specs.Refusals.{refusal_number}
 use Rattle.judge.specs.declared.state.Judge.{Judge}
 use Rattle.judge.specs.declared.ticket.Ticket.{Ticket}
 use Rattle.judge.specs.Tickets.{ticket_of, no_ticket}
@@ -53,3 +56,16 @@ module _ (j : Judge) (log work rows bytes : List ℕ) {r : ℕ} {rows' : List �
       present = λ x. e ∙ ap (refused_reports j.reports) number;
       holds = t;
     }
+
+-- only 5 is the judge's
+pub other_number : (f : Refusal) → (f ≡ Unfit → ⊥) → eqb (refusal_number f) 5 ≡ false
+other_number Length n = refl
+other_number Kind n = refl
+other_number Value n = refl
+other_number Unused n = refl
+other_number Unfit n = absurd (n refl)
+other_number Full n = refl
+other_number Opening n = refl
+other_number Output n = refl
+other_number Stale n = refl
+other_number Event n = refl

@@ -1,4 +1,5 @@
 -- A trace's records: the next one, what is after it, and a push of it. Assumes nothing.
+use Rattle.std.specs.Prelude.{Ok, Err}
 use mathlib.Core.Path.{◌≡◌, refl, sym, ap, ◌∙◌, subst}
 use mathlib.Core.Bool.{false}
 use mathlib.Core.List.{List}
@@ -10,7 +11,6 @@ use lib.ListN.{length, take, drop, replicate, length-drop, drop_of_length-le, ge
 use lib.Seq.{take_all, drop-drop}
 use lib.Dec.{eqb}
 use borrow.Author.Tests.{ne_eqb}
-use Rattle.record.proofs.Booleans.{never}
 use Rattle.record.specs.Records.{decode}
 use Rattle.rules.specs.declared.Opening.{Opening}
 use Rattle.rows.specs.Rows.{report_in, reports_from, KindsFit}
@@ -18,7 +18,8 @@ use Rattle.events.specs.Numbers.{event_in}
 use Rattle.judge.specs.declared.opening.Opened.{Opened}
 use Rattle.judge.specs.declared.trace.Traced.{Traced}
 use Rattle.judge.specs.declared.state.Judge.{Judge}
-use Rattle.judge.specs.declared.state.Refusal.TheVariants.{Nothing}
+use Rattle.decision.specs.declared.refusal.Refusal.{Refusal}
+use Rattle.decision.proofs.Decisions.{refuses}
 use Rattle.decision.specs.Refusals.{outcome_number}
 use Rattle.judge.specs.States.{State, push_refusal, takes}
 use Rattle.decision.specs.Refusals.{push_refusal_by}
@@ -87,21 +88,20 @@ zeros_fit = record { kind = λ k l. let e = get_or-replicate {A = ℕ} 56 (0 + 7
 
 -- an opening that is not refused, and what the trace comes to from there; or one that is
 module _ (n : Opening) (log work trace : List ℕ) (o : Opened) {work₁ : List ℕ} (p : Opens n (length log) work o work₁) where
-  pub traced_on : {log' work' : List ℕ} (r : Traced) → o.refusal ≡ Nothing
+  pub traced_on : {log' work' : List ℕ} (r : Traced) → o.outcome ≡ Ok tt
       → Feeds (state_of (judge_by o.judge.opening o.judge.capacity 0 0 (replicate 56 0)) log work₁) trace 0 (outcome_number r.outcome) r.at
       (state_of r.judge log' work')
       → TracedBy n log work trace r log' work'
   traced_on {log'} {work'} r e w = record {
-    refused = λ none. let x = (p.refused none).0 in let y = ap refusal_number e in absurd (omega arith);
+    refused = λ none. let x = (p.refused none).0 in let y = ap outcome_number e in absurd (omega arith);
     opened = λ c f.
         let q = p.opened c f in
         let j = ap (λ (j : Judge). judge_by j.opening j.capacity 0 0 (replicate 56 0)) q.1 ∙ fresh_rows c n in
         subst (λ (s : State). Feeds s trace 0 (outcome_number r.outcome) r.at (state_of r.judge log' work')) (λ i. state_of (j i) log (q.2 i)) w;
   }
 
-  pub traced_off : eqb (refusal_number o.refusal) 0 ≡ false
-      → TracedBy n log work trace (record { refusal = o.refusal; at = 0; judge = o.judge }) log work₁
-  traced_off e = record {
-    refused = λ none. let q = p.refused none in (q.0, refl, q.1, refl, q.2);
-    opened = λ c f. never (ap (λ (m : ℕ). eqb m 0) (p.opened c f).0) e;
+  pub traced_off : (f : Refusal) → o.outcome ≡ Err f → TracedBy n log work trace (record { outcome = Err f; at = 0; judge = o.judge }) log work₁
+  traced_off f e = record {
+    refused = λ none. let q = p.refused none in (sym (ap outcome_number e) ∙ q.0, refl, q.1, refl, q.2);
+    opened = λ c l. absurd (refuses f (sym (ap outcome_number e) ∙ (p.opened c l).0));
   }

@@ -28,13 +28,13 @@ pub returns-in-Statements : goal.returns-in-Statements
 returns-in-Statements c =
     let a = c.args in
     valued_as c.in-Statements.is a.out.now (λ h. refl)
-    (λ i. c.statements.ensures (hist a.log.now a.n) (hist_length a.log.now a.n) i.descriptors)
+    (λ i. let p = a.past.now in c.statements.ensures (hist p.log.now p.count) (hist_length p.log.now p.count) i.descriptors)
 
 pub returns-in-IsEmpty : goal.returns-in-IsEmpty
 returns-in-IsEmpty c =
     let a = c.args in
     valued_as c.in-IsEmpty.is a.out.now (λ h. refl)
-    (λ i. c.truth.ensures ∙ ap truth (c.is_empty.ensures (hist a.log.now a.n) (hist_length a.log.now a.n) i.descriptors))
+    (λ i. c.truth.ensures ∙ ap truth (let p = a.past.now in c.is_empty.ensures (hist p.log.now p.count) (hist_length p.log.now p.count) i.descriptors))
 
 pub returns-in-HoldersOf : goal.returns-in-HoldersOf
 returns-in-HoldersOf c =

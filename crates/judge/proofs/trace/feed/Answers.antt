@@ -1,5 +1,5 @@
 -- `feed`: whatever the rest of the trace comes to from here, the whole comes to from the start; each record goes one on, or ends it.
-use mathlib.Core.Path.{◌≡◌, refl, sym, ◌∙◌, subst}
+use mathlib.Core.Path.{◌≡◌, refl, sym, ap, subst, ◌∙◌}
 use Prim.Native.Nat.{ℕ, ◌<◌, ◌≤◌, ◌+◌, ◌-◌}
 use native.Mathlib.Omega.{arith}
 use lib.ListN.{length, take, drop, length-drop}
@@ -8,9 +8,9 @@ use mathlib.Core.Logic.{inl}
 use Rattle.record.specs.Records.{decode}
 use Rattle.rules.specs.declared.Opening.{Opening}
 use Rattle.events.specs.Numbers.{event_in}
-use Rattle.decision.specs.Refusals.{PushNumber}
-use Rattle.intake.specs.Takes.{Keepable, KeptIn, PreviewsIn}
-use Rattle.decision.proofs.Decisions.{push_number}
+use Rattle.decision.specs.Refusals.{PushNumber, refusal_number}
+use Rattle.intake.specs.Takes.{KeptIn, PreviewsIn}
+use Rattle.decision.proofs.Decisions.{push_number, refuses}
 use Rattle.intake.proofs.Takes.{takes_off, takes_on, keepable}
 use Rattle.judge.specs.States.{State}
 use Rattle.judge.specs.Pushes.{state_of}
@@ -38,12 +38,14 @@ module _ (o : Opening) (cap at n e end : ℕ) (log work rows trace : List ℕ) w
     part : bytes ≡ take 368 (drop at trace)
     part = record_part trace at end j.ended
 
-    on : {log' work' : List ℕ} {e' : ℕ} → r ≡ 0 → KeptIn cap n log work bytes log' work' → e' ≡ event_in e (decode bytes) → (f a : ℕ) (t : State)
-        → Feeds (state_of (judge_by o cap (n + 1) e' rows') log' work') (drop end trace) (n + 1) f a t → Feeds first trace 0 f a t
-    on {log'} {work'} {e'} q k v f a t w =
+    on : {rec log' work' : List ℕ} {e' : ℕ} → r ≡ 0 → rec ≡ bytes → KeptIn cap n log work rec log' work' → e' ≡ event_in e (decode rec)
+        → (f a : ℕ) (t : State) → Feeds (state_of (judge_by o cap (n + 1) e' rows') log' work') (drop end trace) (n + 1) f a t
+        → Feeds first trace 0 f a t
+    on {rec} {log'} {work'} {e'} q whole k v f a t w =
         let there = state_of (judge_by o cap (n + 1) e' rows') log' work' in
         let left : drop end trace ≡ drop 368 (drop at trace) = record_rest trace at end j.ended in
-        let p = takes_on o cap n e log work rows bytes j.judged q k in
+        let p = takes_on o cap n e log work rows bytes j.judged q whole k in
+        let v : e' ≡ event_in e (decode bytes) = v ∙ ap (λ (s : List ℕ). event_in e (decode s)) whole in
         j.past f a t
         (feeds_on o cap n e log work rows (drop at trace) some_left part j.size p refl v
         (subst (λ (b : List ℕ). Feeds there b (n + 1) f a t) left w))
@@ -59,42 +61,33 @@ module _ (o : Opening) (cap at n e end : ℕ) (log work rows trace : List ℕ) w
 pub loop-at-init : goal.loop-at-init
 loop-at-init c = (omega arith, omega arith, refl, refl, refl, λ f. f, λ f a t w. w)
 
-pub preview-refusal-requires : goal.preview-refusal-requires
-preview-refusal-requires c = c.loop-at.invariant.4 ∙ c.requires
+pub preview-requires : goal.preview-requires
+preview-requires c = c.loop-at.invariant.4 ∙ c.requires
 
-pub returns-then-refusal-ne0 : goal.returns-then-refusal-ne0
-returns-then-refusal-ne0 c =
+pub returns-in-Err : goal.returns-in-Err
+returns-in-Err c =
     let a = c.args in
     let o : Opening = record { tenant = a.tenant } in
     let l = c.loop-at in
     let i = l.invariant in
-    let p = c.preview-refusal.ensures in
+    let p = c.in-Err.ensures.judges in
     let end = c.record_end-end in
     let first = state_of (judge_by o a.cap 0 0 a.rows.now) a.log.now a.work.now in
-    let j : Judged o a.cap l.at l.n l.events end.result l.log l.work l.rows a.trace.now first c.preview-refusal.result c.preview-refusal.new.rows =
+    let j : Judged o a.cap l.at l.n l.events end.result l.log l.work l.rows a.trace.now first (refusal_number c.in-Err.refusal) c.preview.new.rows =
     record { size = i.4 ∙ c.requires; some = c.loop-at-test.true; ended = end.ensures; past = i.6; judged = p } in
     record {
-      feeds = off o a.cap l.at l.n l.events end.result l.log l.work l.rows a.trace.now j c.if-refusal-ne0.true;
+      feeds = off o a.cap l.at l.n l.events end.result l.log l.work l.rows a.trace.now j (refuses c.in-Err.refusal);
       size = p.size ∙ i.4;
       fits = λ f. p.fits (i.5 f);
       few = few o a.cap l.at l.n l.events end.result l.log l.work l.rows a.trace.now j;
     }
 
--- a record that is not refused can be kept, and so is whole
-kept : {o : Opening} {cap n e r : ℕ} {log work rows bytes rows' : List ℕ} → PreviewsIn o cap n e log work rows bytes r rows' → r ≡ 0
-    → Keepable cap n log work bytes
-kept {o} {cap} {n} {e} {r} {log} {work} {rows} {bytes} p z = keepable o cap n e log work rows bytes p z
-
+-- a record that is not refused can be kept
 pub keep-requires : goal.keep-requires
-keep-requires c = kept c.preview-refusal.ensures c.if-refusal-ne0.false
-
-pub event_after-events-requires : goal.event_after-events-requires
-event_after-events-requires c =
-    let a = c.args in
+keep-requires c =
     let l = c.loop-at in
-    let k : Keepable a.cap l.n l.log l.work (take (c.record_end-end.result - l.at) (drop l.at a.trace.now)) =
-    kept c.preview-refusal.ensures c.if-refusal-ne0.false in
-    k.size
+    keepable (record { tenant = c.args.tenant }) c.args.cap l.n l.events l.log l.work l.rows
+    (take (c.record_end-end.result - l.at) (drop l.at c.args.trace.now)) c.in-Ok.ensures.judges refl
 
 pub loop-at-preserved : goal.loop-at-preserved
 loop-at-preserved c =
@@ -102,10 +95,10 @@ loop-at-preserved c =
     let o : Opening = record { tenant = a.tenant } in
     let l = c.loop-at in
     let i = l.invariant in
-    let p = c.preview-refusal.ensures in
+    let p = c.in-Ok.ensures.judges in
     let end = c.record_end-end in
     let first = state_of (judge_by o a.cap 0 0 a.rows.now) a.log.now a.work.now in
-    let j : Judged o a.cap l.at l.n l.events end.result l.log l.work l.rows a.trace.now first c.preview-refusal.result c.preview-refusal.new.rows =
+    let j : Judged o a.cap l.at l.n l.events end.result l.log l.work l.rows a.trace.now first 0 c.preview.new.rows =
     record { size = i.4 ∙ c.requires; some = c.loop-at-test.true; ended = end.ensures; past = i.6; judged = p } in
     let d = end.ensures.0 in
     let b = end.ensures.1 in
@@ -116,7 +109,7 @@ loop-at-preserved c =
       c.keep.auto.work ∙ i.3,
       p.size ∙ i.4,
       λ f. p.fits (i.5 f),
-      on o a.cap l.at l.n l.events end.result l.log l.work l.rows a.trace.now j c.if-refusal-ne0.false c.keep.ensures c.event_after-events.ensures,
+      on o a.cap l.at l.n l.events end.result l.log l.work l.rows a.trace.now j refl c.in-Ok.ensures.whole c.keep.ensures c.event_after-events.ensures,
     )
 
 pub returns : goal.returns

@@ -5,6 +5,7 @@ use Prim.Native.Nat.{ℕ}
 use native.Mathlib.Omega.{arith}
 use lib.ListN.{replicate}
 use Rattle.rules.specs.declared.Report.{Report}
+use Rattle.decision.specs.Refusals.{outcome_number}
 use Rattle.judge.specs.declared.state.Judge.{Judge}
 use Rattle.judge.specs.States.{State}
 use Rattle.judge.specs.Pushes.{state_of}
@@ -18,9 +19,6 @@ read_rows-reports-requires c =
     let n = e.size in
     (omega arith, e.fits zeros_fit)
 
-pub refusal_of-requires : goal.refusal_of-requires
-refusal_of-requires c = c.feed-f.ensures.few
-
 pub returns : goal.returns
 returns c =
     let f = c.feed-f in
@@ -32,5 +30,4 @@ returns c =
     λ rs. record { capacity = j.capacity; count = f.result.count; events = f.result.events; opening = j.opening; reports = rs } in
     let left : List Report → State = λ rs. state_of (judge rs) f.new.log f.new.work in
     let reports = c.read_rows-reports in
-    subst (λ (n : ℕ). Feeds start trace 0 n f.result.at (left reports.result)) (sym c.refusal_of.ensures)
-    (subst (λ (rs : List Report). Feeds start trace 0 f.result.refusal f.result.at (left rs)) (sym reports.ensures) f.ensures.feeds)
+    subst (λ (rs : List Report). Feeds start trace 0 (outcome_number f.result.outcome) f.result.at (left rs)) (sym reports.ensures) f.ensures.feeds

@@ -19,12 +19,13 @@ returns-then-cap-eq0 c =
     looked_as u.ensures.1
     (looked_none a.question u.result.judge a.log.now a.work.now a.out.now e c.if-cap-eq0.true c.of_none-then-cap-eq0.ensures)
 
-pub answer-requires : goal.answer-requires
-answer-requires c =
+pub invariant_of-past : goal.invariant_of-past
+invariant_of-past c =
     let a = c.args in
     let u = c.suits-suiting in
     let e = lends_by a.self a.log.now a.work.now u.ensures.0 u.ensures.1 (not-false u.result.holds c.if-not-suiting.false) in
-    bounded (suiting e) c.if-cap-eq0.false
+    let b = bounded (suiting e) c.if-cap-eq0.false in
+    record { log_holds = b.log_holds; work_holds = b.work_holds; within = b.within; positive = b.positive; small = b.small }
 
 pub returns-in_default : goal.returns-in_default
 returns-in_default c =

@@ -1,11 +1,12 @@
 -- Refused by the numbers alone; else the report with that number.
+use Rattle.std.specs.Prelude.{Ok, Err}
 use mathlib.Core.Path.{◌≡◌, sym, ap, ◌∙◌}
 use mathlib.Core.Bool.{Bool, true, false, cond}
 use Prim.Native.Nat.{ℕ}
 use Rattle.rules.specs.declared.Report.{Report}
 use Rattle.rules.specs.Reports.{passed}
 use Rattle.judge.specs.declared.state.Judge.{Judge}
-use Rattle.judge.specs.declared.state.Refusal.TheVariants.{Nothing, Judge as Unfit}
+use Rattle.decision.specs.declared.refusal.Refusal.TheVariants.{Judge as Unfit}
 use Rattle.decision.specs.Refusals.{fits_by}
 use Rattle.judge.specs.Answers.{report_no, ReportedBy}
 use borrow.Author.Tests.{not-true, not-false}
@@ -21,11 +22,11 @@ module _ (j : Judge) (k : ℕ) where
   said b e g = g ∙ ap (λ (x : Bool). cond x (report_no j.reports k) passed) (sym e)
 
   refused : {i : Judge} {r : Report} → i ≡ j → fits_by j.capacity j.count ≡ false → r ≡ passed
-      → ReportedBy j k (record { refusal = Unfit; judge = i; report = r })
+      → ReportedBy j k (record { outcome = Err Unfit; judge = i; report = r })
   refused back e g = record { refusal = number false e; judge = back; report = said false e g }
 
   given : {i : Judge} {r : Report} → i ≡ j → fits_by j.capacity j.count ≡ true → r ≡ report_no i.reports k
-      → ReportedBy j k (record { refusal = Nothing; judge = i; report = r })
+      → ReportedBy j k (record { outcome = Ok tt; judge = i; report = r })
   given back e g = record { refusal = number true e; judge = back; report = said true e (g ∙ ap (λ (x : Judge). report_no x.reports k) back) }
 
 pub returns-then-not-fit : goal.returns-then-not-fit
