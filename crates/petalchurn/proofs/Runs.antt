@@ -21,7 +21,7 @@ use Rattle.decision.proofs.Suiting.{fits_by_lem}
 use Rattle.judge.specs.declared.answer.Reported.{Reported}
 use Rattle.judge.specs.declared.lookup.Question.{Question}
 use Rattle.judge.specs.declared.state.Judge.{Judge}
-use Rattle.judge.specs.declared.state.Refusal.TheVariants.{Nothing}
+use Rattle.std.specs.Prelude.{Ok}
 use Rattle.judge.specs.declared.ticket.Ticket.{Ticket}
 use Rattle.judge.specs.Tickets.{ticket_of}
 use Rattle.judge.specs.States.{State, suits}
@@ -185,7 +185,7 @@ module _ (o : Opening) (c : ℕ) (h : History) (z : Buffers) (is : state_in z.st
   reported k out r out' l n q =
       let s = state_suiting (state_at z) w.after.fits in
       let fit : fits_by j.capacity j.count ≡ true = fits_by_lem s.small s.within in
-      let given : Reported = record { refusal = Nothing; judge = j; report = report_no j.reports (suc k) } in
+      let given : Reported = record { outcome = Ok tt; judge = j; report = report_no j.reports (suc k) } in
       let by : ReportedBy j (suc k) given = record {
         refusal = sym (ap (λ (b : Bool). cond b 0 5) fit);
         judge = refl;

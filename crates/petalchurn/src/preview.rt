@@ -33,11 +33,15 @@ fn show<'a>(
     let events = state[EVENTS_WORD];
     let tenant = state[TENANT_WORD];
     let rows = &mut reports[0..ROWS];
-    let shown = preview(log, work, rows, n, events, cap, tenant, bytes);
-    if let Err(Refusal::Judge) = shown {
-        clear(&mut reports[0..ROWS]);
+    match preview(log, work, rows, n, events, cap, tenant, bytes) {
+        Ok(taken) => Ok(taken),
+        Err(refusal) => {
+            if refusal.number() == 5 {
+                clear(&mut reports[0..ROWS]);
+            }
+            Err(refusal)
+        }
     }
-    shown
 }
 
 // Shows what a push of a record would do, and gives a ticket to commit it with: state, log and work area are lent for reading only. Both

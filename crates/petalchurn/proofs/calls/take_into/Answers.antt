@@ -47,20 +47,6 @@ overflow_add-state c =
     room_of (sym c.in-Ok.ensures.takes.refusal) in
     next_fits (get_or c.args.state.now 1 0) (get_or c.args.state.now 0 0) r.room r.suits.small
 
-pub bounds-state-1-2 : goal.bounds-state-1-2
-bounds-state-1-2 c =
-    let a = c.args in
-    let n = rows_left a.state.now a.log.now a.work.now a.rec.now c.requires c.in-Ok.ensures.takes in
-    let e = with_size a.state.now (state_facts c.args.state.now c.requires).size c.take.new.rows n in
-    omega (arith, e)
-
-pub bounds-state-2-2 : goal.bounds-state-2-2
-bounds-state-2-2 c =
-    let a = c.args in
-    let n = rows_left a.state.now a.log.now a.work.now a.rec.now c.requires c.in-Ok.ensures.takes in
-    let e = with_size a.state.now (state_facts c.args.state.now c.requires).size c.take.new.rows n in
-    simp length-set (omega (arith, e))
-
 pub returns-in-Ok : goal.returns-in-Ok
 returns-in-Ok c =
     let a = c.args in
