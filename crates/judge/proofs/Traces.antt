@@ -1,16 +1,17 @@
 -- A trace's records: the next one, what is after it, and a push of it. Assumes nothing.
 use Rattle.std.specs.Prelude.{Ok, Err}
 use mathlib.Core.Path.{◌≡◌, refl, sym, ap, ◌∙◌, subst}
-use mathlib.Core.Bool.{false}
-use mathlib.Core.List.{List}
-use mathlib.Core.Logic.{⊎_elim}
-use Prim.Native.Nat.{ℕ, ◌+◌, ◌*◌, ◌-◌, ◌≤◌, ◌<◌}
+use mathlib.Core.Bool.{Bool, true, false}
+use mathlib.Core.List.{List, [], ◌∷◌, ◌++◌, append-nil}
+use mathlib.Core.Logic.{◌⊎◌, inl, inr, ⊎_elim}
+use Prim.Native.Nat.{ℕ, ◌+◌, ◌*◌, ◌≤◌, ◌<◌, min}
 use native.Mathlib.Omega.{arith}
-use native.Mathlib.Nat.{eq-or-lt_of_le}
-use lib.ListN.{length, take, drop, replicate, length-drop, drop_of_length-le, get_or-replicate}
-use lib.Seq.{take_all, drop-drop}
-use lib.Dec.{eqb}
-use borrow.Author.Tests.{ne_eqb}
+use Rattle.std.proofs.lemmas.List.{length-append}
+use Rattle.std.proofs.Math.Seq.{take-append_seam, drop-append_seam}
+use lib.ListN.{length, take, drop, replicate, drop_of_length-le, get_or-replicate}
+use lib.Seq.{take_all}
+use lib.Dec.{eqb, leb}
+use borrow.Author.Tests.{ne_eqb, leb-true, leb-false}
 use Rattle.record.specs.Records.{decode}
 use Rattle.rules.specs.declared.Opening.{Opening}
 use Rattle.rows.specs.Rows.{report_in, reports_from, KindsFit}
@@ -30,24 +31,40 @@ use Rattle.judge.specs.Openings.{fresh_of, Opens}
 use Rattle.judge.specs.Traces.{Feeds, refused, taken, judge_by, TracedBy}
 use Rattle.judge.proofs.Pushes.{push_taken, rows_own}
 
--- the record at `at`, and what is after it
-module _ (t : List ℕ) (at e : ℕ) (h : (at < e) × (e ≤ length t) × (e ≤ at + 368) × (e < length t → e ≡ at + 368)) where
-  pub record_part : take (e - at) (drop at t) ≡ take 368 (drop at t)
-  record_part = ⊎_elim
-      (λ q. let d = length-drop at t in let a = h.2 in take_all (e - at) (drop at t) (omega arith) ∙ sym (take_all 368 (drop at t) (omega arith)))
-      (λ q. let z : e - at ≡ 368 = omega (arith, h.3 q) in ap (λ (m : ℕ). take m (drop at t)) z)
-      (eq-or-lt_of_le h.1)
+no_more : (s : List ℕ) → length s ≡ 0 → s ≡ []
+no_more [] e = refl
+no_more (x ∷ s) e = absurd (omega arith)
 
-  pub record_rest : drop e t ≡ drop 368 (drop at t)
-  record_rest = ⊎_elim
-      (λ q.
-      let d = length-drop at t in
-      let a = h.2 in
-      let x : length t ≤ e = omega arith in
-      let y : length (drop at t) ≤ 368 = omega arith in
-      drop_of_length-le t x ∙ sym (drop_of_length-le (drop at t) y))
-      (λ q. sym (drop-drop 368 at t ∙ ap (λ (m : ℕ). drop m t) (sym (h.3 q))))
-      (eq-or-lt_of_le h.1)
+shorter : (b r a : ℕ) → b ≡ min 368 r → r ≡ b + a → (a ≡ 0) ⊎ (b ≡ 368)
+shorter b r a e m = by_cases (leb r 368) refl where
+  by_cases : (t : Bool) → leb r 368 ≡ t → (a ≡ 0) ⊎ (b ≡ 368)
+  by_cases true q = inl (let l = leb-true r 368 q in omega arith)
+  by_cases false q = inr (let l = leb-false r 368 q in omega arith)
+
+-- the next record of the bytes that are left, and those after it
+pub record Chunk (rest bytes after : List ℕ) : Type 0 where
+  pub some : 0 < length rest
+  pub part : bytes ≡ take 368 rest
+  pub left : after ≡ drop 368 rest
+
+-- a chunk is a record, or the tail that is shorter
+pub chunk : {rest bytes after : List ℕ} {size : ℕ} → size ≡ 368
+    → (rest ≡ bytes ++ after) × (length bytes ≡ min size (length rest)) × (0 < length rest) → Chunk rest bytes after
+chunk {rest} {bytes} {after} {size} z w =
+    let e : length bytes ≡ min 368 (length rest) = w.1 ∙ ap (λ (k : ℕ). min k (length rest)) z in
+    let many : length rest ≡ length bytes + length after = ap length w.0 ∙ length-append bytes after in
+    ⊎_elim
+    (λ (l : length after ≡ 0).
+    let none : after ≡ [] = no_more after l in
+    let whole : rest ≡ bytes = w.0 ∙ ap (λ (s : List ℕ). bytes ++ s) none ∙ append-nil bytes in
+    let short : length rest ≤ 368 = omega arith in
+    record { some = w.2; part = sym whole ∙ sym (take_all 368 rest short); left = none ∙ sym (drop_of_length-le rest short) })
+    (λ (l : length bytes ≡ 368). record {
+      some = w.2;
+      part = sym (ap (λ (k : ℕ). take k rest) (sym l) ∙ ap (take (length bytes)) w.0 ∙ take-append_seam bytes after);
+      left = sym (ap (λ (k : ℕ). drop k rest) (sym l) ∙ ap (drop (length bytes)) w.0 ∙ drop-append_seam bytes after);
+    })
+    (shorter (length bytes) (length rest) (length after) e many)
 
 -- the trace's next record, taken or refused by numbers and rows
 module _ (o : Opening) (cap n e : ℕ) (log work rows : List ℕ) {log' work' rows' bytes : List ℕ} {r : ℕ} (trace : List ℕ) (some : 0 < length trace)

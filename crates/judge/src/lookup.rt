@@ -1,6 +1,6 @@
 // The look-ups: one guard and one shape for every question.
 ghost use Rattle.std.specs.Prelude.{◌≡◌, []};
-ghost use Rattle.judge.specs.Lookups.{found_number, truth, value_of, ListedBy, LookedBy};
+ghost use Rattle.judge.specs.Lookups.{found_number, value_of, ListedBy, LookedBy};
 
 use crate::state::Judge;
 use decision::refusal::Refusal;
@@ -37,13 +37,6 @@ fn found_number(found: Option<u64>) -> usize
     found.map_or(0, |number| number as usize)
 }
 
-// 1 for what holds, else 0.
-fn truth(holds: bool) -> usize
-    ensures { result ≡ truth holds }
-{
-    if holds { 1 } else { 0 }
-}
-
 // The answer of no records.
 fn of_none(question: Question) -> u64
     ensures { result ≡ value_of question [] }
@@ -66,7 +59,7 @@ fn answer(past: &Past, question: Question, out: &mut [u64]) -> Option<usize>
             Some(found_number(first))
         }
         Question::Statements => Some(statements(past) as usize),
-        Question::IsEmpty => Some(truth(is_empty(past))),
+        Question::IsEmpty => Some(usize::from(is_empty(past))),
         Question::HoldersOf(id) => holders_of(past, id, out),
         Question::Blocks => blocks(past, out),
     }

@@ -16,7 +16,7 @@ pub struct Judge {
     pub reports: [Report; CHECKS],
 }
 
-// What a test of the judge gives: whether it holds, and the judge as it was given.
+// What a test of the judge gives: whether it holds, and the judge as it was given, since a judge goes in and comes back by value.
 #[derive(Clone, Copy)]
 pub struct Tested {
     pub holds: bool,

@@ -30,17 +30,6 @@ struct Fed {
     events: u64,
 }
 
-// Where the record that starts at `at` ends: 368 bytes on, or at the trace's end.
-fn record_end(at: usize, len: usize) -> usize
-    requires { (at < len) × (len < 9223372036854775808) }
-    ensures { (at < result) × (result ≤ len) × (result ≤ at + 368) × (result < len → result ≡ at + 368) }
-{
-    if len - at < Judge::RECORD_SIZE {
-        return len;
-    }
-    at + Judge::RECORD_SIZE
-}
-
 // Takes a trace's records up to the first refusal, by numbers and slices alone.
 fn feed(
     log: &mut [u8],
@@ -53,12 +42,10 @@ fn feed(
     requires { length rows.old ≡ rows_size }
     ensures { FedBy (record { tenant = tenant }) cap log.old work.old rows.old trace.now (outcome_number result.outcome) result.at result.count result.events log.new work.new rows.new }
 {
-    let mut at: usize = 0;
     let mut n: usize = 0;
     let mut events: u64 = 0;
-    while at < trace.len() {
-        let end = record_end(at, trace.len());
-        let taken = match preview(log, work, rows, n, events, cap, tenant, &trace[at..end]) {
+    for bytes in trace.chunks(Judge::RECORD_SIZE) {
+        let taken = match preview(log, work, rows, n, events, cap, tenant, bytes) {
             Ok(taken) => taken,
             Err(refusal) => {
                 return Fed {
@@ -72,7 +59,6 @@ fn feed(
         keep(log, work, n, cap, taken);
         events = event_after(events, taken);
         n += 1;
-        at = end;
     }
     Fed {
         outcome: Ok(()),

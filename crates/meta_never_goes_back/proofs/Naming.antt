@@ -8,20 +8,25 @@ use native.Mathlib.Decide.{ℕ_discrete}
 use native.Mathlib.Omega.{arith}
 use lib.Dec.{eqb, leb}
 use lib.ListN.{length, get_or}
-use borrow.Author.Tests.{eq-eqb, ne_eqb, leb-true, lt-ltb, le-ltb}
+use borrow.Author.Tests.{eq-eqb, ne_eqb, leb-true}
 use Rattle.record.specs.Records.{TraceRecord}
 use Rattle.record.proofs.Booleans.{none_some}
 use Rattle.rules.specs.History.{History, when, holds}
 use Rattle.rules.specs.MetaNeverGoesBack.{is_won, name_by, names}
 use Rattle.rules.proofs.MetaHighest.{names_skip}
 use Rattle.history.specs.Columns.{latest_in, clamp, Put}
-use Rattle.history.specs.Logs.{record_at, hist}
+use Rattle.history.specs.declared.past.Past.{Past}
+use Rattle.history.specs.declared.walk.Taken.{Taken}
+use Rattle.history.specs.Logs.{bytes_at, record_at, hist}
+use Rattle.history.specs.Pasts.{IsTaken}
 use Rattle.history.specs.Places.{latest_name}
 use Rattle.history.proofs.Cells.{cell_at, cell_new, Same, column_agrees, column_put, Zeros, column_clear}
 use Rattle.history.proofs.Chains.{In, latest_here, latest_else, latest_in_lem, skip, clamped}
-use Rattle.history.proofs.Logs.{hist_none, hist_length, hist_less}
+use Rattle.history.proofs.Logs.{record_bytes, hist_none, hist_length, hist_less}
 use Rattle.rules.proofs.Tellings.{when_holds}
 use Rattle.history.proofs.Walks.{look_outside, told_found, told_end}
+use Rattle.meta_never_goes_back.specs.declared.names.Names.{Names}
+use Rattle.meta_never_goes_back.specs.Walk.{named_by, NameGoes}
 use Rattle.meta_never_goes_back.specs.Columns.{name_bucket, last_name, is_highest, name_as_of, MetaIndexed, name_before, MetaNoted}
 
 -- ---- the column
@@ -50,15 +55,7 @@ module _ (cap : ℕ) (work : List ℕ) where
   unfolding name_before
   word_some {k} n = rw (ne_eqb k 0 n)
 
-  -- a number above the place counts as none
-  pub word_above : {k : ℕ} → (k ≡ 0 → ⊥) → k < get_or work (latest_name * cap + (k - 1)) 0 % 8192 → 0 ≡ name_before cap work k
-  word_above {k} n l = sym (word_some n ∙ rw (lt-ltb k (get_or work (latest_name * cap + (k - 1)) 0 % 8192) l))
-
-  pub word_within : {k : ℕ} → (k ≡ 0 → ⊥) → get_or work (latest_name * cap + (k - 1)) 0 % 8192 ≤ k
-      → get_or work (latest_name * cap + (k - 1)) 0 % 8192 ≡ name_before cap work k
-  word_within {k} n l = sym (word_some n ∙ rw (le-ltb k (get_or work (latest_name * cap + (k - 1)) 0 % 8192) l))
-
-  pub word_none : {k : ℕ} → k ≡ 0 → name_before cap work k ≡ 0
+  word_none : {k : ℕ} → k ≡ 0 → name_before cap work k ≡ 0
   unfolding name_before
   word_none {k} e = rw (eq-eqb k 0 e)
 
@@ -97,12 +94,18 @@ marked_go m true l h = refl
 marked_go m false l h = absurd (omega (arith, leb-true 8192 (m + 0) h))
 
 -- a marked record names, and surpasses every earlier name
-pub marked_highest : {cap n k : ℕ} {work : List ℕ} {t : Bool} (log : List ℕ) → MetaIndexed cap (hist log n) work → k < n → n ≤ cap → cap ≤ 4096
-    → t ≡ leb 8192 (get_or work (latest_name * cap + k) 0) → t ≡ true → is_highest (record_at log k) (hist log k) ≡ true
-marked_highest {cap} {n} {k} {work} log c l m s e h =
-    marked_go (last_name (record_at log k ∷ hist log k)) (is_highest (record_at log k) (hist log k))
-    (omega (arith, latest_length (record_at log k ∷ hist log k), hist_length log k))
-    (ap (leb 8192) (sym (c.names.word k (omega arith) ∙ cell_at name_as_of log n k l)) ∙ sym e ∙ h)
+pub marked_highest : {p : Past} {y : Taken} → IsTaken p y → MetaIndexed p.cap (hist p.log.now p.count) p.work.now
+    → leb 8192 (get_or p.work.now (latest_name * p.cap + (y.number - 1)) 0) ≡ true
+    → is_highest (record_at p.log.now (y.number - 1)) (hist p.log.now (y.number - 1)) ≡ true
+marked_highest {p} {y} t c h =
+    let k = y.number - 1 in
+    let x = record_at p.log.now k in
+    let older = hist p.log.now k in
+    let word : get_or p.work.now (latest_name * p.cap + k) 0 ≡ name_as_of x older =
+    c.names.word k (omega (arith, t.some, t.within, p.within)) ∙ cell_at name_as_of p.log.now p.count k (omega (arith, t.some, t.within)) in
+    marked_go (last_name (x ∷ older)) (is_highest x older)
+    (omega (arith, latest_length (x ∷ older), hist_length p.log.now k, t.some, t.within, p.within, p.small))
+    (ap (leb 8192) (sym word) ∙ h)
 
 -- ---- one more record
 
@@ -177,3 +180,33 @@ names_more log l e = told_found (λ (y : TraceRecord) (_ : History). when (is_wo
 pub names_end : (log : List ℕ) {i : ℕ} → i ≡ 0 → names (hist log i) ≡ []
 unfolding names
 names_end log e = told_end (λ (y : TraceRecord) (_ : History). when (is_won y) (name_by y)) log e
+
+-- ---- a walk along the names
+
+module _ {p : Past} {s t : Names} {y : Taken} (o : s.past ≡ p) (g : NameGoes s y t) where
+  pub name_taken : IsTaken p y
+  name_taken = record {
+    some = omega (arith, g.some, g.number);
+    within = let l : s.next ≤ p.count = rw o at s.within in omega (arith, g.number);
+    bytes = g.bytes ∙ ap (λ (q : Past). bytes_at (s.next - 1) q.log.now) o ∙ ap (λ (n : ℕ). bytes_at (n - 1) p.log.now) (sym g.number);
+  }
+
+  pub next_past : t.past ≡ p
+  next_past = g.past ∙ o
+
+  -- the names that are left are this one and those before it
+  pub name_left : is_won (record_at p.log.now (s.next - 1)) ≡ true
+      → names (hist p.log.now s.next) ≡ named_by y ∷ names (hist p.log.now (s.next - 1))
+  name_left w =
+      names_more p.log.now g.some w
+      ∙ ap (λ (z : TraceRecord). name_by z ∷ names (hist p.log.now (s.next - 1)))
+      (sym (record_bytes p.log.now (s.next - 1) (g.bytes ∙ ap (λ (q : Past). bytes_at (s.next - 1) q.log.now) o)))
+
+  pub next_down : MetaIndexed p.cap (hist p.log.now p.count) p.work.now → Down p.log.now (s.next - 1) t.next
+  next_down c =
+      let l : s.next ≤ p.count = rw o at s.within in
+      down p.log.now p.count c (omega arith) p.within p.small (g.next ∙ ap (λ (q : Past). name_before q.cap q.work.now (s.next - 1)) o)
+
+pub first_down : (p : Past) {i : ℕ} → MetaIndexed p.cap (hist p.log.now p.count) p.work.now → i ≡ name_before p.cap p.work.now p.count
+    → Down p.log.now p.count i
+first_down p c e = down p.log.now p.count c (omega arith) p.within p.small e

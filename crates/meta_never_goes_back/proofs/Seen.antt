@@ -4,23 +4,26 @@ use mathlib.Core.Bool.{true}
 use mathlib.Core.List.{List, ◌∷◌}
 use mathlib.Core.Logic.{◌⊎◌, inl, inr, ⊎_elim}
 use Rattle.std.specs.Prelude.{Option, None}
-use Prim.Native.Nat.{ℕ, ◌-◌, ◌≤◌, ◌<◌}
+use Prim.Native.Nat.{ℕ, ◌-◌, ◌<◌}
 use native.Mathlib.Omega.{arith}
 use Rattle.record.specs.Keys.{Key, key_in, Lt, Le}
 use Rattle.record.specs.Records.{TraceRecord, decode}
 use Rattle.record.proofs.Keys.{le_le_le}
 use Rattle.rules.specs.Descriptors.{span_of}
-use Rattle.rules.specs.MetaNeverGoesBack.{Name, is_won, name_by, names, standing_name, bounds}
+use Rattle.rules.specs.MetaNeverGoesBack.{Name, is_won, names, standing_name, bounds}
 use Rattle.rules.proofs.Members.{Mem, here, there}
 use Rattle.rules.proofs.MetaLeast.{bounds_cases, bounds_none}
 use Rattle.rules.proofs.MetaWalks.{ends}
-use Rattle.history.specs.Logs.{bytes_at, record_at, hist}
+use Rattle.history.specs.declared.past.Past.{Past}
+use Rattle.history.specs.declared.walk.Taken.{Taken}
+use Rattle.history.specs.Logs.{record_at, hist}
 use Rattle.history.proofs.Logs.{record_bytes}
 use Rattle.history.specs.Weighing.{greater_of}
 use Rattle.history.proofs.Queries.{greater_none}
 use Rattle.meta_never_goes_back.specs.Columns.{MetaIndexed, name_before}
-use Rattle.meta_never_goes_back.specs.Walk.{name_no, stood_with, pull}
-use Rattle.meta_never_goes_back.proofs.Naming.{Down, down, names_more, names_end}
+use Rattle.meta_never_goes_back.specs.declared.names.Names.{Names}
+use Rattle.meta_never_goes_back.specs.Walk.{named, named_by, NameGoes, stood_with, pull}
+use Rattle.meta_never_goes_back.proofs.Naming.{Down, first_down, next_down, next_past, name_taken, name_left, names_end}
 use Rattle.meta_never_goes_back.proofs.Pieces.{Pulled, pull_is, start_of, end_of}
 use Rattle.meta_never_goes_back.proofs.Stood.{index_of, stood_turn, stood_end}
 
@@ -38,76 +41,71 @@ seen_first {log} c next d = record {
   gap = λ b m l. inr (rw (ap bounds d.same) at m);
 }
 
-module _ {log : List ℕ} {n : ℕ} {c next : Key} {best : Option Name} {i : ℕ} (s : Seen log n c best next i) where
-  -- the name before place i, which begins at x and ends at y; near and far are what the calls gave
-  seen_more : {best' : Option Name} {x y near far : Key} {j : ℕ} → 0 < i → best' ≡ stood_with c best (name_by (record_at log (i - 1)))
-      → x ≡ (span_of 1 (record_at log (i - 1))).start → y ≡ (span_of 1 (record_at log (i - 1))).end → near ≡ pull c x next → far ≡ pull c y near
-      → Down log (i - 1) j → Seen log n c best' far j
-  seen_more {best'} {x} {y} {near} {far} {j} l t p q a z d =
-      let v : Name = name_by (record_at log (i - 1)) in
-      let e : names (hist log i) ≡ v ∷ names (hist log (i - 1)) = names_more log l (s.here l) in
+-- a turn: the name y, which begins at x and ends at z; near and far are what the calls gave
+module _ {p : Past} {s t : Names} {y : Taken} (o : s.past ≡ p) (g : NameGoes s y t) {c next : Key} {best : Option Name}
+    (w : Seen p.log.now p.count c best next s.next) where
+  seen_more : {best' : Option Name} {x z near far : Key} → best' ≡ stood_with c best (named_by y)
+      → x ≡ (named_by y).start → z ≡ (named_by y).end → near ≡ pull c x next → far ≡ pull c z near
+      → MetaIndexed p.cap (hist p.log.now p.count) p.work.now → Seen p.log.now p.count c best' far t.next
+  seen_more {best'} {x} {z} {near} {far} u h q a b m =
+      let d = next_down o g m in
+      let older = names (hist p.log.now (s.next - 1)) in
+      let e : names (hist p.log.now s.next) ≡ named_by y ∷ older = name_left o g (w.here g.some) in
       let k : Pulled c x next near = rw a (pull_is c x next) in
-      let f : Pulled c y near far = rw z (pull_is c y near) in
+      let f : Pulled c z near far = rw b (pull_is c z near) in
       record {
         here = d.here;
-        stand = s.stand
+        stand = w.stand
             ∙ ap (λ (ns : List Name). greater_of index_of best (standing_name ns c)) e
-            ∙ stood_turn c v (names (hist log (i - 1))) best
-            ∙ ap (λ (o : Option Name). greater_of index_of o (standing_name (names (hist log (i - 1))) c)) (sym t)
+            ∙ stood_turn c (named_by y) older best
+            ∙ ap (λ (v : Option Name). greater_of index_of v (standing_name older c)) (sym u)
             ∙ ap (λ (ns : List Name). greater_of index_of best' (standing_name ns c)) d.same;
-        gap = λ b m u.
+        gap = λ v m u.
             ⊎_elim
-            (λ w. inl (le_le_le f.kept (le_le_le k.kept w)))
-            (λ w. bounds_cases v (names (hist log (i - 1))) (rw (ap bounds e) at w)
-            (λ r. let h : b ≡ x = r ∙ sym p in inl (le_le_le f.kept (rw h (k.new (rw h at u)))))
-            (λ r. let h : b ≡ y = r ∙ sym q in inl (rw h (f.new (rw h at u))))
+            (λ l. inl (le_le_le f.kept (le_le_le k.kept l)))
+            (λ l. bounds_cases (named_by y) older (rw (ap bounds e) at l)
+            (λ r. let e : v ≡ x = r ∙ sym h in inl (le_le_le f.kept (rw e (k.new (rw e at u)))))
+            (λ r. let e : v ≡ z = r ∙ sym q in inl (rw e (f.new (rw e at u))))
             (λ r. inr (rw (ap bounds d.same) at r)))
-            (s.gap b m u);
+            (w.gap v m u);
       }
 
-  -- all names are seen
-  pub seen_stand : i ≡ 0 → standing_name (names (hist log n)) c ≡ best
-  seen_stand e = s.stand ∙ ap (λ (ns : List Name). greater_of index_of best (standing_name ns c)) (names_end log e) ∙ stood_end c best
+-- all names are seen
+module _ {log : List ℕ} {n : ℕ} {c next : Key} {best : Option Name} {i : ℕ} (e : i ≡ 0) (s : Seen log n c best next i) where
+  pub seen_stand : standing_name (names (hist log n)) c ≡ best
+  seen_stand = s.stand ∙ ap (λ (ns : List Name). greater_of index_of best (standing_name ns c)) (names_end log e) ∙ stood_end c best
 
-  pub seen_gap : i ≡ 0 → (b : Key) → Mem b (bounds (names (hist log n))) → Lt c b → Le next b
-  seen_gap e b m u = ⊎_elim (λ w. w) (λ w. bounds_none (rw (ap bounds (names_end log e)) at w)) (s.gap b m u)
+  pub seen_gap : (b : Key) → Mem b (bounds (names (hist log n))) → Lt c b → Le next b
+  seen_gap b m u = ⊎_elim (λ w. w) (λ w. bounds_none (rw (ap bounds (names_end log e)) at w)) (s.gap b m u)
 
--- the inner loop as the code has it, over places; what needs no column stands first: the next end is above the cursor, and is
--- one of finitely many keys
-pub record Turn (log work : List ℕ) (count cap : ℕ) (end cur : List ℕ) (standing : ℕ) (next : List ℕ) (i : ℕ) : Type 0 where
-  pub within : i ≤ count
-  pub known : standing ≤ count
+-- the inner loop as the code has it; what needs no column stands first: the next end is above the cursor, and is one of finitely
+-- many keys
+pub record Turn (p : Past) (end cur : List ℕ) (standing : Option Taken) (next : List ℕ) (s : Names) : Type 0 where
+  pub past : s.past ≡ p
   pub up : Lt (key_in cur) (key_in next)
-  pub mem : Mem (key_in next) (key_in end ∷ ends (hist log count))
-  pub seen : MetaIndexed cap (hist log count) work → Seen log count (key_in cur) (name_no log standing) (key_in next) i
+  pub mem : Mem (key_in next) (key_in end ∷ ends (hist p.log.now p.count))
+  pub seen : MetaIndexed p.cap (hist p.log.now p.count) p.work.now → Seen p.log.now p.count (key_in cur) (named standing) (key_in next) s.next
 
-module _ {log work : List ℕ} {count cap : ℕ} (fits : count ≤ cap) (small : cap ≤ 4096) {end cur : List ℕ} where
-  pub turn_first : {i : ℕ} → Lt (key_in cur) (key_in end) → i ≤ count → i ≡ name_before cap work count → Turn log work count cap end cur 0 end i
-  turn_first l w e = record {
-    within = w;
-    known = omega arith;
-    up = l;
-    mem = here;
-    seen = λ c. seen_first (key_in cur) (key_in end) (down log count c (omega arith) fits small e);
-  }
+module _ {p : Past} {end cur : List ℕ} where
+  pub turn_first : {s : Names} → Lt (key_in cur) (key_in end) → s.past ≡ p → s.next ≡ name_before p.cap p.work.now p.count → Turn p end cur None end s
+  turn_first l o e = record { past = o; up = l; mem = here; seen = λ c. seen_first (key_in cur) (key_in end) (first_down p c e) }
 
-  pub turn_more : {standing i standing' j : ℕ} {next far old : List ℕ} {x y near : Key} → Turn log work count cap end cur standing next i → (i ≡ 0 → ⊥)
-      → (name_no log standing' ≡ stood_with (key_in cur) (name_no log standing) (name_by (record_at log (i - 1)))) ×
-      ((n : ℕ) → standing ≤ n → i - 1 < n → standing' ≤ n)
-      → old ≡ bytes_at (i - 1) log → x ≡ (span_of 1 (decode old)).start → near ≡ pull (key_in cur) x (key_in next)
-      → y ≡ (span_of 1 (decode old)).end → key_in far ≡ pull (key_in cur) y near → (j ≤ i - 1) × (j ≡ name_before cap work (i - 1))
-      → Turn log work count cap end cur standing' far j
-  turn_more {standing} {i} {standing'} {j} {next} {far} {old} {x} {y} {near} t n s o p a q z f =
-      let r : decode old ≡ record_at log (i - 1) = record_bytes log (i - 1) o in
-      let p' : x ≡ (span_of 1 (record_at log (i - 1))).start = p ∙ ap (λ (v : TraceRecord). (span_of 1 v).start) r in
-      let q' : y ≡ (span_of 1 (record_at log (i - 1))).end = q ∙ ap (λ (v : TraceRecord). (span_of 1 v).end) r in
-      let l : i - 1 < count = omega (arith, t.within) in
-      let k : Pulled (key_in cur) x (key_in next) near = rw a (pull_is (key_in cur) x (key_in next)) in
-      let g : Pulled (key_in cur) y near (key_in far) = rw z (pull_is (key_in cur) y near) in
+  pub turn_more : {s t : Names} {y : Taken} {standing standing' : Option Taken} {next far : List ℕ} {x z near : Key} → Turn p end cur standing next s
+      → NameGoes s y t → named standing' ≡ stood_with (key_in cur) (named standing) (named_by y)
+      → x ≡ (named_by y).start → near ≡ pull (key_in cur) x (key_in next)
+      → z ≡ (named_by y).end → key_in far ≡ pull (key_in cur) z near → Turn p end cur standing' far t
+  turn_more {s} {t} {y} {next = next} {far} {x} {z} {near} w g u h a q b =
+      let i = name_taken w.past g in
+      let k = y.number - 1 in
+      let l : k < p.count = omega (arith, i.some, i.within) in
+      let r : decode y.record.now ≡ record_at p.log.now k = record_bytes p.log.now k i.bytes in
+      let h' : x ≡ (span_of 1 (record_at p.log.now k)).start = h ∙ ap (λ (v : TraceRecord). (span_of 1 v).start) r in
+      let q' : z ≡ (span_of 1 (record_at p.log.now k)).end = q ∙ ap (λ (v : TraceRecord). (span_of 1 v).end) r in
+      let m : Pulled (key_in cur) x (key_in next) near = rw a (pull_is (key_in cur) x (key_in next)) in
+      let f : Pulled (key_in cur) z near (key_in far) = rw b (pull_is (key_in cur) z near) in
       record {
-        within = omega (arith, f.0, l);
-        known = s.1 count t.known l;
-        up = g.up (k.up t.up);
-        mem = g.mem (there (rw q' (end_of log count (i - 1) l))) (k.mem (there (rw p' (start_of log count (i - 1) l))) t.mem);
-        seen = λ c. seen_more (t.seen c) (omega arith) s.0 p' q' a z (down log count c (omega arith) fits small f.1);
+        past = next_past w.past g;
+        up = f.up (m.up w.up);
+        mem = f.mem (there (rw q' (end_of p.log.now p.count k l))) (m.mem (there (rw h' (start_of p.log.now p.count k l))) w.mem);
+        seen = λ c. seen_more w.past g (w.seen c) u h q a b c;
       }

@@ -1,4 +1,5 @@
--- Where no name can be in conflict with a new one, or one covers it, there is no faulty key: so most walks are spared.
+-- Where no name can be in conflict with a new one, or one covers it, there is no faulty key: so most walks are spared. A scan of the
+-- names for one that passes a test.
 use Rattle.std.specs.Prelude.{None}
 use mathlib.Core.Path.{◌≡◌, refl, sym, ap, ◌∙◌}
 use mathlib.Core.Bool.{Bool, true, false, cond, ◌||◌, not, ◌&&◌}
@@ -7,24 +8,24 @@ use Prim.Native.Nat.{ℕ, ◌-◌, ◌<◌}
 use lib.Dec.{ltb, leb}
 use borrow.Author.Tests.{not-true, ltb-true, ltb-false, lt-ltb, le-ltb, leb-true, le-leb, lt-leb}
 use Rattle.record.specs.Keys.{Key, key_ltb, Lt, Le}
-use Rattle.record.specs.Records.{TraceRecord, decode}
+use Rattle.record.specs.Records.{TraceRecord}
 use Rattle.record.proofs.Keys.{le_lt_lt}
 use Rattle.rules.specs.Cases.{is_fault, fault_if, Case}
 use Rattle.rules.specs.Descriptors.{span_of}
 use Rattle.rules.specs.History.{History, any_of}
-use Rattle.rules.specs.MetaNeverGoesBack.{Name, covers, name_fault, won_fault, name_by, names, meta_at}
-use Rattle.rules.specs.Reports.{at_last, report_of}
-use Rattle.rules.specs.declared.Verdict.TheVariants.{Pass}
+use Rattle.rules.specs.MetaNeverGoesBack.{Name, is_won, covers, name_fault, won_fault, names}
 use Rattle.record.proofs.Booleans.{and_left, and_right}
-use Rattle.rules.proofs.Members.{Mem, here, there, any_of_none}
+use Rattle.rules.proofs.Members.{Mem, here, there, any_of_mem, any_of_none}
 use Rattle.rules.proofs.MetaHighest.{covered_low, covered_high, Passes, covered_clear}
 use Rattle.rules.proofs.MetaLeast.{names_clear}
 use Rattle.rules.proofs.Skips.{any_of_nil, any_of_skip}
-use Rattle.history.specs.Logs.{bytes_at, record_at, hist}
-use Rattle.history.proofs.Logs.{record_bytes}
-use Rattle.meta_never_goes_back.specs.Columns.{surpasses}
-use Rattle.meta_never_goes_back.specs.Walk.{against, meets, opposes, not_lower, contains, covers_all, Passed}
-use Rattle.meta_never_goes_back.proofs.Naming.{Down, names_more, names_end}
+use Rattle.history.specs.declared.past.Past.{Past}
+use Rattle.history.specs.declared.walk.Taken.{Taken}
+use Rattle.history.specs.Logs.{record_at, hist}
+use Rattle.meta_never_goes_back.specs.declared.names.Names.{Names}
+use Rattle.meta_never_goes_back.specs.Columns.{surpasses, MetaIndexed, name_before}
+use Rattle.meta_never_goes_back.specs.Walk.{named_by, NameGoes, against, meets, opposes, not_lower, contains, covers_all}
+use Rattle.meta_never_goes_back.proofs.Naming.{Down, first_down, name_left, next_down, names_end}
 
 -- a name is at fault by its numbers
 by_tests : (l g h : Bool) (c d : Case) → is_fault c ≡ true → is_fault d ≡ true
@@ -61,7 +62,7 @@ drop_meets : (a m : Bool) → (a && m) ≡ false → m ≡ true → a ≡ false
 drop_meets true m e f = sym f ∙ e
 drop_meets false m e f = refl
 
-spared : (x : TraceRecord) (ns : List Name) → any_of (opposes x) ns ≡ false → won_fault x ns ≡ None
+pub spared : (x : TraceRecord) (ns : List Name) → any_of (opposes x) ns ≡ false → won_fault x ns ≡ None
 spared x ns e =
     names_clear x ns
     (λ k a b n m c. fault_against x n ∙ drop_meets (against x n) (meets x n) (any_of_none (opposes x) ns e n m) (does_meet x n k a b c))
@@ -74,7 +75,7 @@ module _ (x : TraceRecord) (o : Name) (e : covers_all x o ≡ true) where
   keys : contains x o ≡ true
   keys = and_right (not_lower x o) (contains x o) e
 
-  spared_covered : (h : History) → Passes h → Mem o (names h) → won_fault x (names h) ≡ None
+  pub spared_covered : (h : History) → Passes h → Mem o (names h) → won_fault x (names h) ≡ None
   spared_covered h p i =
       covered_clear x h p i
       (leb-true x.b o.index (and_left (leb x.b o.index) (leb x.d o.generation) numbers))
@@ -84,39 +85,47 @@ module _ (x : TraceRecord) (o : Name) (e : covers_all x o ≡ true) where
 
 -- ---- a scan of the names, newest first
 
-module _ {x : TraceRecord} {log : List ℕ} where
-  pub passed_first : {n i : ℕ} → Down log n i → Passed x log n i
-  passed_first d = record { here = d.here; same = ap (any_of (opposes x)) d.same; among = λ o m. rw d.same m }
+-- of the names of the first n records those before place i are left, the next of them that of the record there; by those that were
+-- passed over none passes the test
+pub record Passed (test : Name → Bool) (log : List ℕ) (n i : ℕ) : Type 0 where
+  pub here : 0 < i → is_won (record_at log (i - 1)) ≡ true
+  pub same : any_of test (names (hist log n)) ≡ any_of test (names (hist log i))
+  pub among : (o : Name) → Mem o (names (hist log i)) → Mem o (names (hist log n))
 
-  module _ {n i : ℕ} (w : Passed x log n i) where
-    pub passed_end : i ≡ 0 → won_fault x (names (hist log n)) ≡ None
-    passed_end e = spared x (names (hist log n)) (w.same ∙ ap (any_of (opposes x)) (names_end log e) ∙ any_of_nil (opposes x))
+module _ {test : Name → Bool} {log : List ℕ} {n : ℕ} where
+  passed_first : {i : ℕ} → Down log n i → Passed test log n i
+  passed_first d = record { here = d.here; same = ap (any_of test) d.same; among = λ o m. rw d.same m }
 
-    module _ (l : 0 < i) {old : List ℕ} (r : old ≡ bytes_at (i - 1) log) where
-      abbrev pub next : Name
-      next = name_by (record_at log (i - 1))
+  pub passed_end : {i : ℕ} → i ≡ 0 → Passed test log n i → any_of test (names (hist log n)) ≡ false
+  passed_end e w = w.same ∙ ap (any_of test) (names_end log e) ∙ any_of_nil test
 
-      pub left : names (hist log i) ≡ next ∷ names (hist log (i - 1))
-      left = names_more log l (w.here l)
+-- at first all are left
+pub scan_first : (test : Name → Bool) {p : Past} {s t : Names} → s ≡ t → t.past ≡ p → t.next ≡ name_before p.cap p.work.now p.count
+    → (s.past ≡ p) × (MetaIndexed p.cap (hist p.log.now p.count) p.work.now → Passed test p.log.now p.count s.next)
+scan_first test {p} e o n = (ap (λ (u : Names). u.past) e ∙ o, λ k. passed_first (first_down p k (ap (λ (u : Names). u.next) e ∙ n)))
 
-      tested : (p : Name → Bool) {t b : Bool} → t ≡ p (name_by (decode old)) → t ≡ b → p next ≡ b
-      tested p e q = ap (λ (y : TraceRecord). p (name_by y)) (sym (record_bytes log (i - 1) r)) ∙ sym e ∙ q
+module _ {test : Name → Bool} {p : Past} {s t : Names} {y : Taken} (o : s.past ≡ p) (g : NameGoes s y t) (w : Passed test p.log.now p.count s.next) where
+  pub left : names (hist p.log.now s.next) ≡ named_by y ∷ names (hist p.log.now (s.next - 1))
+  left = name_left o g (w.here g.some)
 
-      -- the next one covers the new one; it does not oppose it; the new one surpasses it
-      pub passed_covered : {t : Bool} → t ≡ covers_all x (name_by (decode old)) → t ≡ true → (report_of (at_last meta_at) (hist log n)).verdict ≡ Pass
-          → won_fault x (names (hist log n)) ≡ None
-      passed_covered e q p = spared_covered x next (tested (covers_all x) e q) (hist log n) p (w.among next (rw left here))
-
-      pub passed_by : {j : ℕ} → opposes x next ≡ false → Down log (i - 1) j → Passed x log n j
-      passed_by q d = record {
+  pub passed_by : test (named_by y) ≡ false → MetaIndexed p.cap (hist p.log.now p.count) p.work.now → Passed test p.log.now p.count t.next
+  passed_by q c =
+      let d = next_down o g c in
+      record {
         here = d.here;
-        same = w.same ∙ ap (any_of (opposes x)) left ∙ any_of_skip (opposes x) next _ q ∙ ap (any_of (opposes x)) d.same;
-        among = λ o m. w.among o (let k : Mem o (names (hist log (i - 1))) = rw d.same m in rw left (there k));
+        same = w.same ∙ ap (any_of test) left ∙ any_of_skip test (named_by y) _ q ∙ ap (any_of test) d.same;
+        among = λ n m. w.among n (let k : Mem n (names (hist p.log.now (s.next - 1))) = rw d.same m in rw left (there k));
       }
 
-      pub passed_miss : {t : Bool} {j : ℕ} → t ≡ opposes x (name_by (decode old)) → t ≡ false → Down log (i - 1) j → Passed x log n j
-      passed_miss e q d = passed_by (tested (opposes x) e q) d
+  -- one that passes; and the last of them, before which there is none that does
+  pub passes_here : test (named_by y) ≡ true → any_of test (names (hist p.log.now p.count)) ≡ true
+  passes_here q = w.same ∙ ap (any_of test) left ∙ any_of_mem test here q
 
-      pub surpassed_next : {t : Bool} {index generation b d : ℕ} → index ≡ x.b → generation ≡ x.d → b ≡ (decode old).b → d ≡ (decode old).d
-          → t ≡ ltb b index && leb d generation → {u : Bool} → t ≡ u → surpasses x next ≡ u
-      surpassed_next p q f g e z = tested (surpasses x) (e ∙ rw (p, q, f, g)) z
+  pub passed_last : test (named_by y) ≡ false → any_of test (names (hist p.log.now (y.number - 1))) ≡ false
+      → any_of test (names (hist p.log.now p.count)) ≡ false
+  passed_last q e =
+      w.same ∙ ap (any_of test) left ∙ any_of_skip test (named_by y) _ q
+      ∙ ap (λ (n : ℕ). any_of test (names (hist p.log.now (n - 1)))) (sym g.number) ∙ e
+
+  pub passed_mem : Mem (named_by y) (names (hist p.log.now p.count))
+  passed_mem = w.among (named_by y) (rw left here)

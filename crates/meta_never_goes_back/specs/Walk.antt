@@ -1,19 +1,33 @@
--- The parts of the check: a name by its record's number, the name that stands after one more, the next end of a name above
--- a key, the names that can be in conflict with a new one, those that cover it, and a scan for one.
-use Rattle.std.specs.Prelude.{◌≡◌, Bool, true, cond, not, ◌&&◌, ◌||◌, List, ℕ, zero, suc, ◌-◌, ◌<◌, ltb, leb, Option, None, Some}
+-- The parts of the check: the names of records taken and a walk along them, the name that stands after one more, the next end of
+-- a name above a key, the names that can be in conflict with a new one, and those that cover it.
+use Rattle.std.specs.Prelude.{◌≡◌, Bool, cond, not, ◌&&◌, ◌||◌, ◌-◌, ◌<◌, ltb, leb, Option, MatchOption, option_map}
 use Rattle.record.specs.Keys.{Key, key_ltb}
-use Rattle.record.specs.Records.{TraceRecord}
+use Rattle.record.specs.Records.{TraceRecord, decode}
 use Rattle.rules.specs.Descriptors.{span_of}
-use Rattle.rules.specs.History.{Mem, any_of}
-use Rattle.rules.specs.MetaNeverGoesBack.{Name, is_won, name_by, names, covers}
-use Rattle.history.specs.Logs.{record_at, hist}
+use Rattle.rules.specs.MetaNeverGoesBack.{Name, name_by, covers}
+use Rattle.history.specs.declared.walk.Taken.{Taken}
+use Rattle.history.specs.Logs.{bytes_at}
 use Rattle.history.specs.Weighing.{greatest_step}
-use Rattle.meta_never_goes_back.specs.Columns.{unsurpassed}
+use Rattle.meta_never_goes_back.specs.declared.names.Names.{Names}
+use Rattle.meta_never_goes_back.specs.Columns.{name_before}
 
--- the name that the record of a number gives, none for 0
-abbrev pub name_no : List ℕ → ℕ → Option Name
-name_no log zero = None
-name_no log (suc k) = Some (name_by (record_at log k))
+-- the name that a record taken gives, and the one of the record that was found
+abbrev pub named_by : Taken → Name
+named_by y = name_by (decode y.record.now)
+
+abbrev pub named : Option Taken → Option Name
+named o = option_map named_by o
+
+-- a walk along the names goes on: its next name, and from the word before that one's place the name before it
+pub record NameGoes (s : Names) (x : Taken) (t : Names) : Type 0 where
+  pub some : 0 < s.next
+  pub number : x.number ≡ s.next
+  pub bytes : x.record.now ≡ bytes_at (s.next - 1) s.past.log.now
+  pub past : t.past ≡ s.past
+  pub next : t.next ≡ name_before s.past.cap s.past.work.now (s.next - 1)
+
+abbrev pub NameSteps : Names → Option Taken → Names → Type 0
+NameSteps s r t = MatchOption r ((s.next ≡ 0) × (t ≡ s)) (λ x. NameGoes s x t)
 
 -- the name that stands at a key when one more, earlier than those so far, is looked at: of equal indexes the earlier
 abbrev pub stood_with : Key → Option Name → Name → Option Name
@@ -47,15 +61,3 @@ contains x n = not (key_ltb (span_of 1 x).start n.start) && not (key_ltb n.end (
 -- while the report is a pass, no key of a won span that such a name covers is in conflict
 abbrev pub covers_all : TraceRecord → Name → Bool
 covers_all x n = not_lower x n && contains x n
-
--- a scan of the names, newest first: of those of the first n records, the ones before place i are left, the next of them that
--- of the record there, and none so far opposes
-pub record Passed (x : TraceRecord) (log : List ℕ) (n i : ℕ) : Type 0 where
-  pub here : 0 < i → is_won (record_at log (i - 1)) ≡ true
-  pub same : any_of (opposes x) (names (hist log n)) ≡ any_of (opposes x) (names (hist log i))
-  pub among : (o : Name) → Mem o (names (hist log i)) → Mem o (names (hist log n))
-
--- the scan passes over the names before place from that a new one surpasses: the next is one that it does not, if there is one
-pub record Skipped (x : TraceRecord) (log : List ℕ) (n from i : ℕ) : Type 0 where
-  pub passed : Passed x log n i
-  pub rest : any_of (unsurpassed x) (names (hist log from)) ≡ ltb 0 i

@@ -8,24 +8,25 @@ ghost use Rattle.descriptors.specs.Columns.{DescriptorsIndexed};
 ghost use Rattle.meta_never_goes_back.specs.Columns.{MetaIndexed};
 ghost use Rattle.history.specs.Pasts.{taken, Indexed};
 
-use history::past::Past;
 use crate::descriptor::descriptor_case;
 use crate::walk::won_case;
+use history::past::Past;
 use record::Record;
 use record::field::kind;
 use rules::Fault;
 
 // The meta case of a record over those of the log, while the report is a pass: its descriptor first, then the keys that it
 // won.
-pub fn meta<'a>(past: &Past, rec: &'a Record) -> Option<Fault>
-    ensures { Indexed DescriptorsIndexed past.now → Indexed MetaIndexed past.now → (report_of (at_last meta_at) (taken past.now)).verdict ≡ Pass → result ≡ meta_at (decode rec.now) (taken past.now) }
+#[tactic(auto, using(rules::proofs::MetaCases::meta_other, rules::proofs::MetaCases::meta_named, rules::proofs::MetaCases::meta_won))]
+pub fn meta(past: &Past, rec: &Record) -> Option<Fault>
+    ensures { Indexed DescriptorsIndexed past.now → Indexed MetaIndexed past.now
+        → (report_of (at_last meta_at) (taken past.now)).verdict ≡ Pass → result ≡ meta_at (decode rec.now) (taken past.now) }
 {
     if kind(rec) != 12 {
         return None;
     }
-    let descriptor = descriptor_case(past, rec);
-    if descriptor.is_some() {
-        return descriptor;
+    match descriptor_case(past, rec) {
+        Some(fault) => Some(fault),
+        None => won_case(past, rec),
     }
-    won_case(past, rec)
 }

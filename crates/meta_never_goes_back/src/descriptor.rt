@@ -1,48 +1,30 @@
 // The descriptor that a record names: kinds 1 and 2.
-ghost use Rattle.std.specs.Prelude.{◌≡◌, ◌∷◌, [], ℕ, suc, ◌*◌, ◌≤◌, ◌<◌, length};
+ghost use Rattle.std.specs.Prelude.{◌≡◌};
 ghost use Rattle.record.specs.Records.{decode};
-ghost use Rattle.rules.specs.Cases.{fault, fault_if};
-ghost use Rattle.rules.specs.Descriptors.{held_by, first_at_generation};
-ghost use Rattle.rules.specs.MetaNeverGoesBack.{differs_from, named_fault};
-ghost use Rattle.history.specs.Logs.{record_at};
+ghost use Rattle.rules.specs.Descriptors.{first_at_generation};
+ghost use Rattle.rules.specs.MetaNeverGoesBack.{named_fault};
 ghost use Rattle.descriptors.specs.Columns.{DescriptorsIndexed};
 ghost use Rattle.history.specs.Pasts.{taken, Indexed};
 
-use history::past::Past;
 use crate::fault::descriptor_fault;
-use descriptors::value::first_at_generation;
+use descriptors::value::first_of;
 use history::held::same_named;
-use history::log::record_at;
+use history::past::Past;
 use record::Record;
 use record::field::{a, d};
 use rules::Fault;
 
-// The case of a record by the one that put its descriptor, given by its number: one of those taken, so nothing is said of
-// any other number.
-fn differing_case(log: &[u8], count: usize, number: u64, rec: &Record) -> Option<Fault>
-    requires { (368 * count ≤ length log.now) × (count ≤ 4096) }
-    ensures { (k : ℕ) → number ≡ suc k → k < count → result ≡ fault_if (differs_from (decode rec.now) (held_by (record_at log.now k))) (fault 2 ((decode rec.now).a ∷ (decode rec.now).d ∷ (decode rec.now).b ∷ [])) }
-{
-    if number == 0 {
-        return None;
-    }
-    if (count as u64) < number {
-        return None;
-    }
-    let k = (number - 1) as usize;
-    if same_named(record_at(log, k), rec) {
-        return None;
-    }
-    descriptor_fault(2, rec)
-}
-
 // The case of a record's descriptor: its range has none of that generation, or one that differs.
+#[tactic(auto, using(crate::proofs::Putting::named_none, crate::proofs::Putting::named_same, crate::proofs::Putting::named_other))]
 pub fn descriptor_case(past: &Past, rec: &Record) -> Option<Fault>
-    ensures { Indexed DescriptorsIndexed past.now → result ≡ named_fault (decode rec.now) (first_at_generation (decode rec.now).a (decode rec.now).d (taken past.now)) }
+    ensures { let x = decode rec.now in
+        Indexed DescriptorsIndexed past.now → result ≡ named_fault x (first_at_generation x.a x.d (taken past.now)) }
 {
-    let found = first_at_generation(past, a(rec), d(rec));
-    match found {
-        Some(number) => differing_case(past.log, past.count, number, rec),
-        None => descriptor_fault(1, rec),
+    let Some(named) = first_of(past, a(rec), d(rec)) else {
+        return Some(descriptor_fault(1, rec));
+    };
+    if same_named(named.record, rec) {
+        return None;
     }
+    Some(descriptor_fault(2, rec))
 }

@@ -1,5 +1,5 @@
 // The faults of the check, with their evidence.
-ghost use Rattle.std.specs.Prelude.{◌≡◌, ◌∷◌, []};
+ghost use Rattle.std.specs.Prelude.{◌≡◌, ◌∷◌, [], Some};
 ghost use Rattle.record.specs.Records.{decode};
 ghost use Rattle.rules.specs.Cases.{fault};
 ghost use Rattle.rules.specs.MetaNeverGoesBack.{name_by, name_fault};
@@ -9,10 +9,10 @@ use record::field::{a, b, d};
 use rules::Fault;
 
 // Kinds 1 and 2: range, generation, index.
-pub fn descriptor_fault(kind: u8, rec: &Record) -> Option<Fault>
-    ensures { result ≡ fault kind ((decode rec.now).a ∷ (decode rec.now).d ∷ (decode rec.now).b ∷ []) }
+pub fn descriptor_fault(kind: u8, rec: &Record) -> Fault
+    ensures { Some result ≡ fault kind ((decode rec.now).a ∷ (decode rec.now).d ∷ (decode rec.now).b ∷ []) }
 {
-    Some(Fault::new(kind, &[a(rec), d(rec), b(rec)]))
+    Fault::new(kind, &[a(rec), d(rec), b(rec)])
 }
 
 // Kinds 3 and 4, of a key that a record wins and another named: index, range, generation, old generation, and for kind 4

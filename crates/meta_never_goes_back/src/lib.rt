@@ -6,6 +6,7 @@ pub mod cells;
 pub mod check;
 pub mod descriptor;
 pub mod fault;
+pub mod names;
 pub mod note;
 pub mod opposed;
 pub mod walk;

@@ -1,23 +1,22 @@
 // The won span against the names that stand at its keys: kinds 3 and 4.
-ghost use Rattle.std.specs.Prelude.{◌≡◌, ℕ, ◌+◌, ◌*◌, ◌≤◌, ◌<◌, length};
+ghost use Rattle.std.specs.Prelude.{◌≡◌};
 ghost use Rattle.record.specs.Keys.{key_in};
 ghost use Rattle.record.specs.Records.{decode};
 ghost use Rattle.rules.specs.Cases.{fault_if, case_of};
 ghost use Rattle.rules.specs.declared.Verdict.TheVariants.{Pass};
 ghost use Rattle.rules.specs.MetaNeverGoesBack.{is_won, name_by, names, covers, name_fault, won_fault, meta_at};
 ghost use Rattle.rules.specs.Reports.{at_last, report_of};
-ghost use Rattle.history.specs.Logs.{record_at};
 ghost use Rattle.meta_never_goes_back.specs.Columns.{MetaIndexed};
-ghost use Rattle.meta_never_goes_back.specs.Walk.{name_no, stood_with, pull};
+ghost use Rattle.meta_never_goes_back.specs.Walk.{named, named_by, stood_with, pull};
 ghost use Rattle.history.specs.Pasts.{taken, Indexed};
 
-use history::past::Past;
-use crate::cells::name_before;
 use crate::fault::name_fault;
+use crate::names::Names;
 use crate::opposed::any_opposed;
 use crate::won::is_won;
-use history::log::record_at;
+use history::past::Past;
 use history::span::{end_of, start_of};
+use history::walk::Taken;
 use record::Record;
 use record::field::b;
 use record::key::key_less;
@@ -27,58 +26,45 @@ use rules::Fault;
 fn does_cover(old: &Record, key: &[u8]) -> bool
     ensures { result ≡ covers (key_in key.now) (name_by (decode old.now)) }
 {
-    !key_less(key, start_of(old, 1)) & key_less(key, end_of(old, 1))
+    !key_less(key, start_of(old, 1)) && key_less(key, end_of(old, 1))
 }
 
-fn index_of(log: &[u8], i: usize) -> u64
-    requires { 368 * i + 368 ≤ length log.now }
-    ensures { result ≡ (record_at log.now i).b }
+// The name that stands at a key, when one more is looked at, which is earlier than those so far: of equal indexes the earlier.
+#[tactic(auto, unfolding(history::specs::Weighing::greater_of))]
+fn stands<'a>(key: &[u8], best: Option<Taken<'a>>, old: Taken<'a>) -> Option<Taken<'a>>
+    ensures { named result ≡ stood_with (key_in key.now) (named best.entry) (named_by old.entry) }
 {
-    b(record_at(log, i))
-}
-
-// The number of the name that stands at a key, when the one at place i is looked at too, which is earlier than those so far.
-fn stands(log: &[u8], key: &[u8], best: usize, i: usize) -> usize
-    requires { (368 * best ≤ length log.now) × ((368 * i + 368 ≤ length log.now) × (i < 4096)) }
-    ensures { (name_no log.now result ≡ stood_with (key_in key.now) (name_no log.now best) (name_by (record_at log.now i))) × ((n : ℕ) → best ≤ n → i < n → result ≤ n) }
-{
-    if !does_cover(record_at(log, i), key) {
+    if !does_cover(old.record, key) {
         return best;
     }
-    if best == 0 {
-        return i + 1;
+    match best {
+        Some(kept) if b(old.record) < b(kept.record) => best,
+        _ => Some(old),
     }
-    if index_of(log, best - 1) <= index_of(log, i) {
-        return i + 1;
-    }
-    best
 }
 
 // Of two places that whose key is above c and lower, b's where x's is not.
 fn nearer<'a>(c: &[u8], x: &'a [u8], b: &'a [u8]) -> &'a [u8]
     ensures { key_in result.now ≡ pull (key_in c.now) (key_in x.now) (key_in b.now) }
 {
-    if key_less(c, x) & key_less(x, b) {
+    if key_less(c, x) && key_less(x, b) {
         x
     } else {
         b
     }
 }
 
-// The case of a key by the number of the name that stands there.
-fn key_case(log: &[u8], standing: usize, rec: &Record) -> Option<Fault>
-    requires { 368 * standing ≤ length log.now }
-    ensures { result ≡ case_of (name_fault (decode rec.now)) (name_no log.now standing) }
+// The case of a key by the name that stands there.
+fn key_case(standing: Option<Taken>, rec: &Record) -> Option<Fault>
+    ensures { result ≡ case_of (name_fault (decode rec.now)) (named standing.entry) }
 {
-    if standing == 0 {
-        return None;
-    }
-    name_fault(rec, record_at(log, standing - 1))
+    name_fault(rec, standing?.record)
 }
 
 // The fault of the won span: piece by piece in key order, each against the name that stands there, up to the first faulty
-// one. A piece begins at the cursor and goes up to the next end of a name.
-fn walk_case<'a>(past: &Past, rec: &'a Record) -> Option<Fault>
+// one. A piece begins at the cursor and goes up to the next end of a name. The form is the Rust's: nested loops over the
+// pieces and the names that can stand there, left by the label with the fault.
+fn walk_case(past: &Past, rec: &Record) -> Option<Fault>
     ensures { Indexed MetaIndexed past.now → result ≡ won_fault (decode rec.now) (names (taken past.now)) }
 {
     let start = start_of(rec, 1);
@@ -88,38 +74,35 @@ fn walk_case<'a>(past: &Past, rec: &'a Record) -> Option<Fault>
         if !key_less(cur, end) {
             break 'walk None;
         }
-        let mut standing = 0usize;
+        let mut standing: Option<Taken> = None;
         let mut next: &[u8] = end;
-        let mut i = name_before(past.work, past.cap, past.count);
+        let mut rest = Names::new(past);
         loop {
-            if i == 0 {
-                let case = key_case(past.log, standing, rec);
+            let Some(old) = rest.next() else {
+                let case = key_case(standing, rec);
                 if case.is_some() {
                     break 'walk case;
                 }
                 break;
-            }
-            i -= 1;
-            standing = stands(past.log, cur, standing, i);
-            let old = past.record(i);
-            let near = nearer(cur, start_of(old, 1), next);
-            let nearest = nearer(cur, end_of(old, 1), near);
+            };
+            standing = stands(cur, standing, old);
+            let near = nearer(cur, start_of(old.record, 1), next);
+            let nearest = nearer(cur, end_of(old.record, 1), near);
             next = nearest;
-            i = name_before(past.work, past.cap, i);
         }
         cur = next;
     }
 }
 
 // The case of the keys that a record wins, while the report is a pass.
-pub fn won_case<'a>(past: &Past, rec: &'a Record) -> Option<Fault>
-    ensures { Indexed MetaIndexed past.now → (report_of (at_last meta_at) (taken past.now)).verdict ≡ Pass → result ≡ fault_if (is_won (decode rec.now)) (won_fault (decode rec.now) (names (taken past.now))) }
+pub fn won_case(past: &Past, rec: &Record) -> Option<Fault>
+    ensures { let x = decode rec.now in
+        Indexed MetaIndexed past.now → (report_of (at_last meta_at) (taken past.now)).verdict ≡ Pass
+        → result ≡ fault_if (is_won x) (won_fault x (names (taken past.now))) }
 {
-    if !is_won(rec) {
-        return None;
+    if is_won(rec) && any_opposed(past, rec) {
+        walk_case(past, rec)
+    } else {
+        None
     }
-    if !any_opposed(past, rec) {
-        return None;
-    }
-    walk_case(past, rec)
 }

@@ -12,10 +12,5 @@ use record::key::key_less;
 pub fn is_won(rec: &Record) -> bool
     ensures { result ≡ is_won (decode rec.now) }
 {
-    if kind(rec) != 12 {
-        return false;
-    }
-    let start = start_of(rec, 1);
-    let end = end_of(rec, 1);
-    (2 <= span_count(rec)) & key_less(start, end)
+    kind(rec) == 12 && 2 <= span_count(rec) && key_less(start_of(rec, 1), end_of(rec, 1))
 }

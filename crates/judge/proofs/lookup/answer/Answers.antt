@@ -1,10 +1,16 @@
 -- `answer`: each question by the look-back that answers it.
-use mathlib.Core.Path.{refl, ap, ◌∙◌}
+use mathlib.Core.Path.{◌≡◌, refl, ap, ◌∙◌}
+use mathlib.Core.Bool.{Bool, true, false}
+use mir.Val.{bool_byte}
 use Rattle.history.specs.Logs.{hist}
 use Rattle.history.proofs.Logs.{hist_length}
 use Rattle.judge.specs.Lookups.{found_number, truth}
 use Rattle.judge.proofs.Lookups.{valued_as, listed_as}
 use Rattle.judge.proofs.lookup.answer.Goals as goal
+
+byte_truth : (b : Bool) → bool_byte b ≡ truth b
+byte_truth true = refl
+byte_truth false = refl
 
 pub returns-in-Before : goal.returns-in-Before
 returns-in-Before c =
@@ -34,7 +40,7 @@ pub returns-in-IsEmpty : goal.returns-in-IsEmpty
 returns-in-IsEmpty c =
     let a = c.args in
     valued_as c.in-IsEmpty.is a.out.now (λ h. refl)
-    (λ i. c.truth.ensures ∙ ap truth (let p = a.past.now in c.is_empty.ensures (hist p.log.now p.count) (hist_length p.log.now p.count) i.descriptors))
+    (λ i. c.from.ensures ∙ byte_truth c.is_empty.result ∙ ap truth (let p = a.past.now in c.is_empty.ensures (hist p.log.now p.count) (hist_length p.log.now p.count) i.descriptors))
 
 pub returns-in-HoldersOf : goal.returns-in-HoldersOf
 returns-in-HoldersOf c =

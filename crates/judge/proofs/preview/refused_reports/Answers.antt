@@ -1,8 +1,7 @@
 -- `refused_reports`: passes under 5, else those given.
-use mathlib.Core.Path.{sym, ap, ◌∙◌}
+use mathlib.Core.Path.{sym, ap}
 use mathlib.Core.Bool.{Bool, cond}
 use lib.ListN.{replicate}
-use Rattle.rules.specs.declared.Report.{Report}
 use Rattle.rules.specs.Reports.{passed}
 use Rattle.rules.specs.Checks.{check_count}
 use Rattle.judge.proofs.Previews.{other_number}

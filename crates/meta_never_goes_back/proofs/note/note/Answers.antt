@@ -8,4 +8,4 @@ pub returns : goal.returns
 returns c =
     let a = c.args in
     let p = c.requires in
-    noted (hist_length a.log.now a.count) p.1 p.0.small refl c.name_with-latest.ensures.1 c.is_highest-highest.ensures c.word.ensures c.put.ensures
+    noted (hist_length a.log.now a.count) p.1 p.0.small refl c.name_with-latest.ensures.name c.is_highest-highest.ensures c.word.ensures c.put.ensures

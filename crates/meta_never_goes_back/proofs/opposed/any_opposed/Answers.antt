@@ -1,41 +1,48 @@
--- The names that are not surpassed are looked at newest first, each led to from the word before the last one's place.
-use mathlib.Core.Path.{refl}
-use native.Mathlib.Omega.{arith}
-use Rattle.record.proofs.Booleans.{never}
-use Rattle.history.proofs.Logs.{record_length}
-use Rattle.meta_never_goes_back.proofs.Naming.{down}
-use Rattle.meta_never_goes_back.proofs.Spared.{passed_first, passed_end, passed_covered, passed_miss}
+-- A name that opposes is found; past a marked one that is surpassed there is none, and none matters past one that covers.
+use mathlib.Core.Path.{sym, ◌∙◌}
+use Rattle.record.specs.Records.{decode}
+use Rattle.rules.specs.MetaNeverGoesBack.{names}
+use Rattle.history.specs.Pasts.{taken}
+use Rattle.meta_never_goes_back.specs.Walk.{named_by, opposes}
+use Rattle.meta_never_goes_back.proofs.Naming.{next_past, name_taken}
+use Rattle.meta_never_goes_back.proofs.Spared.{spared, spared_covered, surpassed_clear, scan_first, passed_by, passed_last, passed_mem, passed_end}
+use Rattle.meta_never_goes_back.proofs.Surpassed.{marked_clear}
 use Rattle.meta_never_goes_back.proofs.opposed.any_opposed.Goals as goal
 
-pub loop-i-init : goal.loop-i-init
-loop-i-init c = (
-  omega arith,
-  λ m. (c.skip_surpassed-i.ensures.1 _ (omega arith) (omega arith) m
-      (passed_first (down _ _ m (omega arith) (omega arith) (omega arith) c.name_before.ensures.1))).passed,
-)
+pub loop-old-init : goal.loop-old-init
+loop-old-init c =
+    let n = c.new-old-items.ensures in
+    scan_first (opposes (decode c.args.rec.now)) c.into_iter-old-iterator.ensures.into_iter_gives n.past n.next
 
-pub record-old-requires : goal.record-old-requires
-record-old-requires c = omega arith
+pub returns-then-is_marked : goal.returns-then-is_marked
+returns-then-is_marked c = λ k p f.
+    let x = decode c.args.rec.now in
+    let i = c.loop-old.invariant in
+    let g = c.in-Some.ensures.steps in
+    let over = sym c.does_surpass.ensures ∙ c.if-does_surpass.true in
+    spared x (names (taken c.args.past.now))
+    (passed_last i.0 g (i.1 k) (surpassed_clear x (named_by c.in-Some.old) over)
+    (marked_clear x (name_taken i.0 g) k (sym c.is_marked.ensures ∙ c.if-is_marked.true) over))
 
-pub returns-then-does_oppose : goal.returns-then-does_oppose
-returns-then-does_oppose c = λ m p f. never refl f
+pub loop-old-preserved-else-is_marked : goal.loop-old-preserved-else-is_marked
+loop-old-preserved-else-is_marked c =
+    let i = c.loop-old.invariant in
+    let g = c.in-Some.ensures.steps in
+    let over = sym c.does_surpass.ensures ∙ c.if-does_surpass.true in
+    (next_past i.0 g, λ k. passed_by i.0 g (i.1 k) (surpassed_clear (decode c.args.rec.now) (named_by c.in-Some.old) over) k)
 
 pub returns-then-does_cover : goal.returns-then-does_cover
-returns-then-does_cover c = λ m p f. passed_covered (c.loop-i.invariant.1 m) (omega arith) c.record-old.ensures c.does_cover.ensures c.if-does_cover.true p
+returns-then-does_cover c = λ k p f.
+    let i = c.loop-old.invariant in
+    let g = c.in-Some.ensures.steps in
+    spared_covered (decode c.args.rec.now) (named_by c.in-Some.old) (sym c.does_cover.ensures ∙ c.if-does_cover.true) (taken c.args.past.now) p
+    (passed_mem i.0 g (i.1 k))
 
-pub name_before-requires-in-loop-i : goal.name_before-requires-in-loop-i
-name_before-requires-in-loop-i c = omega arith
-
-pub loop-i-smaller : goal.loop-i-smaller
-loop-i-smaller c = omega arith
-
-pub loop-i-preserved : goal.loop-i-preserved
-loop-i-preserved c = (
-  omega arith,
-  λ m. (c.skip_surpassed-i-in-loop-i.ensures.1 _ (omega arith) (omega arith) m
-      (passed_miss (c.loop-i.invariant.1 m) (omega arith) c.record-old.ensures c.does_oppose.ensures c.if-does_oppose.false
-      (down _ _ m (omega arith) (omega arith) (omega arith) c.name_before-in-loop-i.ensures.1))).passed,
-)
+pub loop-old-preserved : goal.loop-old-preserved
+loop-old-preserved c =
+    let i = c.loop-old.invariant in
+    let g = c.in-Some.ensures.steps in
+    (next_past i.0 g, λ k. passed_by i.0 g (i.1 k) (sym c.does_oppose.ensures ∙ c.if-does_oppose.false) k)
 
 pub returns : goal.returns
-returns c = λ m p f. passed_end (c.loop-i.invariant.1 m) (omega arith)
+returns c = λ k p f. spared (decode c.args.rec.now) (names (taken c.args.past.now)) (passed_end c.in-None.ensures.steps.0 (c.loop-old.invariant.1 k))

@@ -1,7 +1,6 @@
 -- `fed`: from rows of zeros the trace comes to rows, which are the judge's reports then.
 use mathlib.Core.Path.{sym, subst}
 use mathlib.Core.List.{List}
-use Prim.Native.Nat.{ℕ}
 use native.Mathlib.Omega.{arith}
 use lib.ListN.{replicate}
 use Rattle.rules.specs.declared.Report.{Report}

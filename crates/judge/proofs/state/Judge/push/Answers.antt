@@ -9,7 +9,6 @@ use mir.Val.{Fits}
 use Rattle.record.specs.Records.{decode}
 use Rattle.rules.specs.declared.Report.{Report}
 use Rattle.events.specs.Numbers.{event_in}
-use Rattle.decision.specs.Refusals.{push_refusal_by}
 use Rattle.decision.proofs.Decisions.{Room, room_of, refuses}
 use Rattle.judge.specs.declared.state.Judge.{Judge}
 use Rattle.intake.specs.Words.{Indexed}
