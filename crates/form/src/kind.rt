@@ -52,52 +52,27 @@ const NONE: Numbers = Numbers {
     e: false,
 };
 
-const A: Numbers = Numbers {
-    a: true,
-    b: false,
-    c: false,
-    d: false,
-    e: false,
-};
+const A: Numbers = Numbers { a: true, ..NONE };
 
-const A_B: Numbers = Numbers {
-    a: true,
-    b: true,
-    c: false,
-    d: false,
-    e: false,
-};
+const A_B: Numbers = Numbers { b: true, ..A };
 
-const A_B_C: Numbers = Numbers {
-    a: true,
-    b: true,
-    c: true,
-    d: false,
-    e: false,
-};
+const A_B_C: Numbers = Numbers { c: true, ..A_B };
 
-const A_B_D: Numbers = Numbers {
-    a: true,
-    b: true,
-    c: false,
-    d: true,
-    e: false,
-};
+const A_B_D: Numbers = Numbers { d: true, ..A_B };
 
-const A_TO_D: Numbers = Numbers {
-    a: true,
-    b: true,
-    c: true,
-    d: true,
-    e: false,
-};
+const A_TO_D: Numbers = Numbers { d: true, ..A_B_C };
 
-const A_TO_E: Numbers = Numbers {
-    a: true,
-    b: true,
-    c: true,
-    d: true,
-    e: true,
+const A_TO_E: Numbers = Numbers { e: true, ..A_TO_D };
+
+// A kind whose records have nothing but their kind and node. Spans have ends where there are any.
+const BARE: Shape = Shape {
+    codes: ZERO,
+    flags: ZERO,
+    voters: ZERO,
+    spans: ZERO,
+    numbers: NONE,
+    parent: false,
+    ends: true,
 };
 
 // 1 RangeCreated: the parent, C, with the flag.
@@ -108,69 +83,50 @@ const CREATED: Shape = Shape {
     spans: Values { low: 1, high: 1 },
     numbers: A_TO_D,
     parent: true,
-    ends: true,
+    ..BARE
 };
 
 // 2 RangeDescriptor.
 const DESCRIPTOR: Shape = Shape {
     codes: Values { low: 1, high: 3 },
-    flags: ZERO,
     voters: VOTERS,
     spans: Values { low: 1, high: 1 },
     numbers: A_TO_D,
-    parent: false,
-    ends: true,
+    ..BARE
 };
 
 // 3 RaftApply: the key as the start of a span that has no end, or none.
 const APPLY: Shape = Shape {
     codes: Values { low: 1, high: 7 },
-    flags: ZERO,
-    voters: ZERO,
     spans: Values { low: 0, high: 1 },
     numbers: A_B,
-    parent: false,
     ends: false,
+    ..BARE
 };
 
 // 8 SpanInstalled.
 const INSTALLED: Shape = Shape {
-    codes: ZERO,
-    flags: ZERO,
-    voters: ZERO,
     spans: Values {
         low: 0,
         high: SPAN_LIMIT,
     },
-    numbers: NONE,
-    parent: false,
-    ends: true,
+    ..BARE
 };
 
 // 12 MetaApplied: the flag where it continues an event.
 const META_APPLIED: Shape = Shape {
-    codes: ZERO,
     flags: Values { low: 0, high: 1 },
     voters: VOTERS,
     spans: Values { low: 1, high: 2 },
     numbers: A_B_D,
-    parent: false,
-    ends: true,
+    ..BARE
 };
 
 // A kind that uses numbers and nothing else.
-fn numbered(n: Numbers) -> Option<Shape>
-    ensures { result ≡ Some (plain n) }
+fn numbered(numbers: Numbers) -> Option<Shape>
+    ensures { result ≡ Some (plain numbers) }
 {
-    Some(Shape {
-        codes: ZERO,
-        flags: ZERO,
-        voters: ZERO,
-        spans: ZERO,
-        numbers: n,
-        parent: false,
-        ends: true,
-    })
+    Some(Shape { numbers, ..BARE })
 }
 
 // What the kind with a number may have: decided over the kind byte, with nothing for a number that no kind has.
