@@ -74,7 +74,6 @@ pub fn petalchurn_report(state: &[u64], k: u64, out: &mut [u64]) -> u64
     if out.len() < REPORT_WORDS {
         return 8;
     }
-    let report = reported.report;
-    write_report(out, 0, report);
-    0
+    write_report(out, 0, reported.report);
+    refusal
 }

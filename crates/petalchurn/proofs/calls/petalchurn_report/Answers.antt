@@ -31,6 +31,6 @@ pub returns : goal.returns
 returns c =
     let a = c.args in
     let some = sym c.is_state.ensures ∙ c.if-not-is_state.false in
-    report_done a.state.now a.k a.out.now c.report-reported.result some c.read_state-judge.ensures c.report-reported.ensures
+    rw c.if-refusal-ne0.false (report_done a.state.now a.k a.out.now c.report-reported.result some c.read_state-judge.ensures c.report-reported.ensures
     c.number_of-refusal.ensures
-    c.if-refusal-ne0.false c.if-out-lt-REPORT_WORDS.false c.write_report.ensures.0
+    c.if-refusal-ne0.false c.if-out-lt-REPORT_WORDS.false c.write_report.ensures.0)
