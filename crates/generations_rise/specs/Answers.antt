@@ -21,12 +21,6 @@ written_of (Some w) = rated_as w.generation
 unfoldable pub written_as : TraceRecord → History → Written
 written_as x h = written_of (first_write x h)
 
--- the generation of the record that `before` found among count
-unfoldable pub found_generation : List ℕ → ℕ → Found → Written
-found_generation log count None = Unrated
-found_generation log count (Some zero) = Unrated
-found_generation log count (Some (suc k)) = cond (ltb k count) (Rated (record_at log k).d) Unrated
-
 -- "a higher generation, or another range and the same generation"
 abbrev pub against : ℕ → ℕ → ℕ → ℕ → Bool
 against range generation by last = ltb generation last || (not (eqb by range) && eqb last generation)
