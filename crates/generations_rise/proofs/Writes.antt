@@ -1,6 +1,6 @@
 -- Laws of what a record's write counts as: none, one at a place that counted before, or one at the generation of `before`.
-use mathlib.Core.Path.{◌≡◌, sym, ap, ◌∙◌}
-use mathlib.Core.Bool.{Bool, true, false}
+use mathlib.Core.Path.{◌≡◌, ap, ◌∙◌}
+use mathlib.Core.Bool.{true, false}
 use Rattle.std.specs.Prelude.{Option, None, Some}
 use Prim.Native.Nat.{ℕ}
 use Rattle.record.specs.Records.{TraceRecord, decode}

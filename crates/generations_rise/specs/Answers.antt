@@ -1,10 +1,8 @@
 -- What the answers of this crate's functions stand for in the rules.
-use Rattle.std.specs.Prelude.{Bool, cond, ◌&&◌, ◌||◌, not, List, ℕ, zero, suc, eqb, ltb, Option, None, Some}
+use Rattle.std.specs.Prelude.{Bool, ◌&&◌, ◌||◌, not, ℕ, eqb, ltb, Option, None, Some}
 use Rattle.record.specs.Records.{TraceRecord}
-use Rattle.rules.specs.Answers.{Found}
 use Rattle.rules.specs.History.{History}
 use Rattle.rules.specs.GenerationsRise.{Write}
-use Rattle.history.specs.Logs.{record_at}
 use Rattle.firsts.specs.Columns.{first_write}
 use Rattle.generations_rise.specs.declared.write.Written.{Written}
 use Rattle.generations_rise.specs.declared.write.Written.TheVariants.{Not, Unrated, Rated}

@@ -1,6 +1,6 @@
 -- The columns of `GenerationsRise`: the writes of a key that count and have a generation, and that generation. What they hold, and
 -- what a note promises.
-use Rattle.std.specs.Prelude.{◌≡◌, true, false, List, [], ◌∷◌, ℕ, ◌+◌, ◌-◌, ◌*◌, ◌%◌, ◌≤◌, ◌<◌, length, drop, get_or, fold, Some}
+use Rattle.std.specs.Prelude.{◌≡◌, true, false, List, ◌∷◌, ℕ, ◌+◌, ◌-◌, ◌*◌, ◌%◌, ◌≤◌, ◌<◌, length, drop, get_or, fold, Some}
 use Rattle.record.specs.Keys.{Key, key_eqb}
 use Rattle.record.specs.Records.{TraceRecord}
 use Rattle.rules.specs.History.{History, Tells, is_kind, when, given, is_some}

@@ -10,9 +10,9 @@ ghost use Rattle.generations_rise.specs.Columns.{GenerationsIndexed};
 ghost use Rattle.generations_rise.specs.Answers.{written_as, against};
 ghost use Rattle.history.specs.Pasts.{taken, Indexed};
 
-use history::past::Past;
 use crate::cells::{last_write_at, written_at};
 use crate::write::{Written, counts_as};
+use history::past::Past;
 use history::span::start_of;
 use record::Record;
 use record::field::{a, b};
@@ -43,15 +43,15 @@ fn rise_case(past: &Past, rec: &Record, generation: u64) -> Option<Fault>
     None
 }
 
-// The generations case of a record whose write counts as w, while the report is a pass.
+// The generations case of a record whose write counts so, while the report is a pass.
 #[tactic(auto, using(crate::proofs::Cases::case_not, crate::proofs::Cases::case_unrated, crate::proofs::Cases::case_rated))]
-pub fn generations_case(past: &Past, rec: &Record, w: Written) -> Option<Fault>
+pub fn generations_case(past: &Past, rec: &Record, written: Written) -> Option<Fault>
     ensures { let x = decode rec.now in
         let h = taken past.now in
-        Indexed GenerationsIndexed past.now → (report_of (at_last generations_at) h).verdict ≡ Pass → w ≡ written_as x h
+        Indexed GenerationsIndexed past.now → (report_of (at_last generations_at) h).verdict ≡ Pass → written ≡ written_as x h
         → result ≡ generations_at x h }
 {
-    match w {
+    match written {
         Written::Not => None,
         Written::Unrated => Some(Fault::new(1, &[a(rec), b(rec)])),
         Written::Rated(generation) => rise_case(past, rec, generation),

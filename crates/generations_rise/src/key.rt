@@ -10,9 +10,10 @@ use record::key::key;
 fn key_number(k: &[u8]) -> u64
     ensures { result ≡ key_number k.now }
 {
-    k[k.len().saturating_sub(8)..]
-        .iter()
-        .fold(0, |n, byte| n % 0x100_0000_0000_0000 * 256 + u64::from(*byte))
+    k[k.len().saturating_sub(8)..].iter().fold(
+        0,
+        |n, byte| n % 0x100_0000_0000_0000 * 256 + u64::from(*byte),
+    )
 }
 
 // The bucket of the key in a place.
