@@ -13,7 +13,7 @@ use history::chain::{enter, put};
 use history::past::Past;
 use history::place::{KEY_HEADS, KEY_LINKS, WRITTEN_AT};
 use history::span::start_of;
-use record::{Record, Record};
+use record::Record;
 
 // A write that counts and has no generation.
 fn note_unrated(work: &mut [u64], count: usize, cap: usize, rec: &Record)
@@ -56,14 +56,12 @@ pub fn note(log: &[u8], work: &mut [u64], count: usize, cap: usize, rec: &Record
     requires { Bounds log.now work.old count cap × (count < cap) }
     ensures { GenerationsTaken cap (hist log.now count) (decode rec.now) work.old work.new }
 {
-    let written = counts_as(
-        &Past {
-            log,
-            work,
-            count,
-            cap,
-        },
-        rec,
-    );
+    let past = Past {
+        log,
+        work,
+        count,
+        cap,
+    };
+    let written = counts_as(&past, rec);
     note_as(work, count, cap, rec, written);
 }
