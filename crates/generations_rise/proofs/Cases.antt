@@ -5,8 +5,8 @@ use mathlib.Core.List.{List, [], ◌∷◌}
 use Rattle.std.specs.Prelude.{Option, None, Some}
 use Prim.Native.Nat.{ℕ, suc, ◌-◌}
 use native.Mathlib.Omega.{arith}
-use Rattle.record.specs.Keys.{key_eqb}
-use Rattle.record.specs.Records.{TraceRecord}
+use Rattle.record.specs.Keys.{Key, key_eqb}
+use Rattle.record.specs.Records.{TraceRecord, decode}
 use Rattle.rules.specs.Cases.{Case, fault, fault_if, case_of}
 use Rattle.rules.specs.declared.Verdict.TheVariants.{Pass}
 use Rattle.rules.specs.History.{History, holds, any_of, latest_of}
@@ -14,7 +14,11 @@ use Rattle.rules.specs.Descriptors.{span_of}
 use Rattle.rules.specs.GenerationsRise.{Write, tells_write, same_write, writes, is_earlier, opposes, last_generation, rise_fault, write_fault, generations_at}
 use Rattle.rules.specs.Reports.{at_last, report_of}
 use Rattle.record.proofs.Booleans.{none_some}
+use Rattle.history.specs.declared.past.Past.{Past}
+use Rattle.history.specs.declared.walk.Taken.{Taken}
 use Rattle.history.specs.Logs.{record_at, hist}
+use Rattle.history.specs.Pasts.{taken, IsTaken}
+use Rattle.history.proofs.Logs.{record_bytes}
 use Rattle.firsts.specs.Columns.{first_write, write_of}
 use Rattle.generations_rise.specs.declared.write.Written.TheVariants.{Not, Unrated, Rated}
 use Rattle.generations_rise.specs.Columns.{generation_by, last_write_at}
@@ -118,8 +122,8 @@ module _ (x : TraceRecord) (g : ℕ) (log : List ℕ) (count : ℕ) (pass : (rep
   last_of : LastIs log last n
   last_of = rw f (last_is W.key log count)
 
-  pub rise_none : n ≡ 0 → None ≡ rise_fault W g (writes (hist log count))
-  rise_none z =
+  none_rises : n ≡ 0 → None ≡ rise_fault W g (writes (hist log count))
+  none_rises z =
       let e : last ≡ None = rw z at last_of in
       let d : holds (opposes W.range g) last ≡ false = ap (holds (opposes W.range g)) e in
       rw (decided ∙ d)
@@ -141,15 +145,26 @@ module _ (x : TraceRecord) (g : ℕ) (log : List ℕ) (count : ℕ) (pass : (rep
           → fault_if (opposes x.a g w) (told w) ≡ fault_if (against x.a g by v) (fault 2 (x.a ∷ x.b ∷ g ∷ v ∷ by ∷ []))
       weighed w r u = rw (u, r)
 
-  module _ (z : n ≡ 0 → ⊥) {range index by v : ℕ} (p : range ≡ x.a) (q : index ≡ x.b) (b : (record_at log (n - 1)).a ≡ by)
-      (u : v ≡ generation_by (record_at log (n - 1)) (hist log (n - 1))) where
-    weighed_by : fault_if (against range g by v) (fault 2 (range ∷ index ∷ g ∷ v ∷ by ∷ [])) ≡ rise_fault W g (writes (hist log count))
-    weighed_by = rw (p, q, ← b, u) (rise_found (n - 1) (omega arith))
+-- by the record that was found
+module _ (x : TraceRecord) (g : ℕ) (p : Past) {key : Key} (s : key ≡ (span_of 0 x).start) (pass : (report_of (at_last generations_at) (taken p)).verdict ≡ Pass) where
+  of_key : {n : ℕ} → n ≡ last_write_at key (taken p) → n ≡ last_write_at (span_of 0 x).start (taken p)
+  of_key f = f ∙ ap (λ (k : Key). last_write_at k (taken p)) s
 
-    pub rise_fault_lem : {r : Case} → against range g by v ≡ true → r ≡ fault 2 (range ∷ index ∷ g ∷ v ∷ by ∷ []) → r ≡ rise_fault W g (writes (hist log count))
-    rise_fault_lem t e = e ∙ sym (ap (λ (s : Bool). fault_if s (fault 2 (range ∷ index ∷ g ∷ v ∷ by ∷ []))) t) ∙ weighed_by
+  pub rise_none : 0 ≡ last_write_at key (taken p) → None ≡ rise_fault (write_of x (taken p)) g (writes (taken p))
+  rise_none f = none_rises x g p.log.now p.count pass (of_key f) refl
 
-  pub rise_clear : (n ≡ 0 → ⊥) → {range by v : ℕ} → range ≡ x.a → (record_at log (n - 1)).a ≡ by
-      → v ≡ generation_by (record_at log (n - 1)) (hist log (n - 1)) → against range g by v ≡ false → None ≡ rise_fault W g (writes (hist log count))
-  rise_clear z {range} {by} {v} p b u t =
-      sym (ap (λ (s : Bool). fault_if s (fault 2 (range ∷ x.b ∷ g ∷ v ∷ by ∷ []))) t) ∙ weighed_by z p refl b u
+  module _ {y : Taken} (t : IsTaken p y) (f : y.number ≡ last_write_at key (taken p)) {range by v : ℕ} (r : range ≡ x.a) (b : by ≡ (decode y.record.now).a)
+      (u : v ≡ generation_by (record_at p.log.now (y.number - 1)) (hist p.log.now (y.number - 1))) where
+    weighed : (index : ℕ) → index ≡ x.b
+        → fault_if (against range g by v) (fault 2 (range ∷ index ∷ g ∷ v ∷ by ∷ [])) ≡ rise_fault (write_of x (taken p)) g (writes (taken p))
+    weighed index q =
+        let a : by ≡ (record_at p.log.now (y.number - 1)).a =
+        b ∙ ap (λ (z : TraceRecord). z.a) (record_bytes p.log.now (y.number - 1) t.bytes) in
+        rw (r, q, a, u) (rise_found x g p.log.now p.count pass (of_key f) (y.number - 1) (omega (arith, t.some)))
+
+    pub rise_against : {index : ℕ} {c : Case} → against range g by v ≡ true → index ≡ x.b → c ≡ fault 2 (range ∷ index ∷ g ∷ v ∷ by ∷ [])
+        → c ≡ rise_fault (write_of x (taken p)) g (writes (taken p))
+    rise_against {index} t q e = e ∙ sym (ap (λ (s : Bool). fault_if s (fault 2 (range ∷ index ∷ g ∷ v ∷ by ∷ []))) t) ∙ weighed index q
+
+    pub rise_clear : against range g by v ≡ false → None ≡ rise_fault (write_of x (taken p)) g (writes (taken p))
+    rise_clear t = sym (ap (λ (s : Bool). fault_if s (fault 2 (range ∷ x.b ∷ g ∷ v ∷ by ∷ []))) t) ∙ weighed x.b refl

@@ -1,45 +1,34 @@
--- Laws of a key's writes: a key's number and bucket, the last write of a key along its chain, and what that write is.
+-- Laws of a key's writes: a key's bucket, the last write of a key along its chain, and what that write is.
 use mathlib.Core.Path.{◌≡◌, refl, sym, ap, ◌∙◌}
 use mathlib.Core.Bool.{Bool, true, false, ◌&&◌}
 use mathlib.Core.List.{List, [], ◌∷◌}
 use Rattle.std.proofs.lemmas.Option.{same_Some}
 use Rattle.std.specs.Prelude.{Option, None, Some}
-use Prim.Native.Nat.{ℕ, zero, suc, ◌+◌, ◌*◌, ◌-◌, ◌≤◌, ◌<◌}
+use Prim.Native.Nat.{ℕ, zero, suc, ◌+◌, ◌*◌, ◌-◌}
 use native.Mathlib.Omega.{arith}
-use native.Mathlib.Numerals.{add-one}
-use lib.ListN.{length, get_or, drop, drop_of_length-le}
-use lib.Seq.{drop-cons}
+use lib.ListN.{length, get_or}
 use Rattle.record.specs.Keys.{Key, key_eqb}
-use Rattle.record.specs.Records.{TraceRecord}
+use Rattle.record.specs.Records.{TraceRecord, decode}
 use Rattle.record.proofs.Keys.{list_eqb_same}
 use Rattle.rules.specs.History.{History, when, given, is_some, holds, latest_of}
 use Rattle.rules.specs.Descriptors.{span_of}
 use Rattle.rules.specs.GenerationsRise.{Write, writes, is_earlier, tells_write, same_write}
 use Rattle.record.proofs.Booleans.{never, none_some}
 use Rattle.rules.proofs.Skips.{latest_of_nil, latest_of_hit, latest_of_skip, firsts_nil}
+use Rattle.history.specs.declared.past.Past.{Past}
+use Rattle.history.specs.declared.walk.Taken.{Taken}
 use Rattle.history.specs.Logs.{record_at, hist}
+use Rattle.history.specs.Pasts.{IsTaken}
 use Rattle.history.specs.Columns.{latest_in}
 use Rattle.history.specs.Places.{written_at}
-use Rattle.history.proofs.Logs.{hist_none, hist_suc, hist_length}
+use Rattle.history.proofs.Logs.{record_bytes, hist_none, hist_suc, hist_length}
 use Rattle.rules.proofs.Tellings.{when_holds, when_value}
 use Rattle.history.proofs.Cells.{cell_at}
 use Rattle.history.proofs.Chains.{In, latest_here, latest_else}
 use Rattle.history.proofs.Walks.{look_less, look_end, look_outside}
 use Rattle.firsts.specs.Columns.{first_write, write_of}
-use Rattle.generations_rise.specs.Columns.{rated_write, rolled, rolled_all, bucket_by_key, key_bucket, generation_by, writes_key, last_write_at, GenerationsIndexed}
+use Rattle.generations_rise.specs.Columns.{rated_write, bucket_by_key, key_bucket, generation_by, writes_key, last_write_at, GenerationsIndexed}
 use Rattle.firsts.proofs.Writes.{write_is, writes_more, writes_same}
-
--- one byte more of a key's number, and the end
-pub rolled_next : (k : List ℕ) (n : ℕ) {i n' b x : ℕ} → i < length k → b ≡ get_or k i 0 → n' ≡ rolled n b → x ≡ rolled_all n (drop i k)
-    → x ≡ rolled_all n' (drop (i + 1) k)
-unfolding rolled_all
-rolled_next k n {i} {n'} l e d y =
-    y ∙ ap (rolled_all n) (drop-cons k i 0 l) ∙ ap (λ (v : ℕ). rolled_all (rolled n v) (drop (suc i) k)) (sym e)
-    ∙ ap (λ (v : ℕ). rolled_all v (drop (suc i) k)) (sym d) ∙ ap (λ (j : ℕ). rolled_all n' (drop j k)) (sym (add-one i))
-
-pub rolled_end : (k : List ℕ) {i n x : ℕ} → length k ≤ i → x ≡ rolled_all n (drop i k) → x ≡ n
-unfolding rolled_all
-rolled_end k {i} {n} l y = y ∙ ap (rolled_all n) (drop_of_length-le k l)
 
 module _ (x : TraceRecord) (h : History) where
   -- a write that has a generation is one that counts
@@ -117,6 +106,12 @@ module _ (key : Key) (x : TraceRecord) (h : History) where
       latest_else (writes_key key) 0 x h
       (λ z. let k = key_told z in never k.2 (ap (λ (v : Write). key_eqb v.key key) (same_Some k.0 w (sym k.1 ∙ e)) ∙ t))
 
+  -- nor by one whose first span begins elsewhere
+  key_elsewhere : key_eqb (span_of 0 x).start key ≡ false → last_write_at key (x ∷ h) ≡ last_write_at key h
+  key_elsewhere t =
+      latest_else (writes_key key) 0 x h
+      (λ z. let k = key_told z in never (ap (λ (v : Write). key_eqb v.key key) (write_is x h (rated_first x h k.1)) ∙ k.2) t)
+
   key_outside : (cap : ℕ) → (key_bucket cap x h ≡ Some (bucket_by_key cap key) → ⊥) → last_write_at key (x ∷ h) ≡ last_write_at key h
   key_outside cap n =
       latest_else (writes_key key) 0 x h
@@ -129,26 +124,30 @@ module _ (key : Key) (x : TraceRecord) (h : History) where
 abbrev pub starts_with : Key → TraceRecord → Bool
 starts_with key x = key_eqb (span_of 0 x).start key
 
-module _ (key : Key) (log : List ℕ) where
-  pub last_skip : (cap k : ℕ) → (In (key_bucket cap) (bucket_by_key cap key) log k → ⊥) → last_write_at key (hist log (suc k)) ≡ last_write_at key (hist log k)
-  last_skip cap = look_outside (last_write_at key) (key_bucket cap) (bucket_by_key cap key) log (λ x h n. key_outside key x h cap n)
+pub last_skip : (key : Key) (log : List ℕ) (cap k : ℕ) → (In (key_bucket cap) (bucket_by_key cap key) log k → ⊥)
+    → last_write_at key (hist log (suc k)) ≡ last_write_at key (hist log k)
+last_skip key log cap = look_outside (last_write_at key) (key_bucket cap) (bucket_by_key cap key) log (λ x h n. key_outside key x h cap n)
 
-  pub last_hit : (cap : ℕ) {i b : ℕ} → 0 < i → In (key_bucket cap) b log (i - 1) → starts_with key (record_at log (i - 1)) ≡ true
-      → last_write_at key (hist log i) ≡ i
-  last_hit cap {i} l m t =
-      let n : length (hist log (i - 1)) ≡ i - 1 = hist_length log (i - 1) in
-      look_less (last_write_at key) log i l
-      ∙ key_here key (record_at log (i - 1)) (hist log (i - 1)) (chained_key (record_at log (i - 1)) (hist log (i - 1)) cap m) t ∙ omega arith
+module _ (key : Key) {p : Past} {y : Taken} (t : IsTaken p y) where
+  at_place : {b : Bool} → starts_with key (decode y.record.now) ≡ b → starts_with key (record_at p.log.now (y.number - 1)) ≡ b
+  at_place e = ap (starts_with key) (sym (record_bytes p.log.now (y.number - 1) t.bytes)) ∙ e
 
-  pub last_miss : (cap : ℕ) {i b : ℕ} → 0 < i → In (key_bucket cap) b log (i - 1) → starts_with key (record_at log (i - 1)) ≡ false
-      → last_write_at key (hist log i) ≡ last_write_at key (hist log (i - 1))
-  last_miss cap {i} l m t =
-      look_less (last_write_at key) log i l
-      ∙ key_differs key (record_at log (i - 1)) (hist log (i - 1)) (chained_key (record_at log (i - 1)) (hist log (i - 1)) cap m) t
+  pub last_hit : {b : ℕ} → In (key_bucket p.cap) b p.log.now (y.number - 1) → starts_with key (decode y.record.now) ≡ true
+      → last_write_at key (hist p.log.now y.number) ≡ y.number
+  last_hit m e =
+      let x = record_at p.log.now (y.number - 1) in
+      let h = hist p.log.now (y.number - 1) in
+      look_less (last_write_at key) p.log.now y.number t.some ∙ key_here key x h (chained_key x h p.cap m) (at_place e)
+      ∙ omega (arith, hist_length p.log.now (y.number - 1), t.some)
 
-  pub last_end : {i : ℕ} → i ≡ 0 → last_write_at key (hist log i) ≡ i
-  unfolding latest_in
-  last_end e = look_end (last_write_at key) log e ∙ sym e
+  pub last_miss : starts_with key (decode y.record.now) ≡ false → last_write_at key (hist p.log.now y.number) ≡ last_write_at key (hist p.log.now (y.number - 1))
+  last_miss e =
+      look_less (last_write_at key) p.log.now y.number t.some
+      ∙ key_elsewhere key (record_at p.log.now (y.number - 1)) (hist p.log.now (y.number - 1)) (at_place e)
+
+pub last_end : (key : Key) (log : List ℕ) → last_write_at key (hist log 0) ≡ 0
+unfolding latest_in
+last_end key log = look_end (last_write_at key) log refl
 
 -- what a key's last write is, by its record's number: none; or by the record's range, at the generation of its word
 abbrev pub LastIs : List ℕ → Option Write → ℕ → Type 0
@@ -202,7 +201,9 @@ pub last_is : (key : Key) (log : List ℕ) (n : ℕ) → LastIs log (latest_of (
 last_is key log zero = rw (hist_none log) (none_last key log)
 last_is key log (suc n) = rw (hist_suc log n) (last_step key log n (last_is key log n))
 
--- the word of the record at a place
-pub written_is : (log : List ℕ) {cap count at : ℕ} {work : List ℕ} → at < count → count ≤ cap → GenerationsIndexed cap (hist log count) work
-    → get_or work (written_at * cap + at) 0 ≡ generation_by (record_at log at) (hist log at)
-written_is log {count = count} {at = at} l m i = i.written.word at (omega arith) ∙ cell_at generation_by log count at l
+-- the word of a record taken
+pub written_is : {p : Past} {y : Taken} → IsTaken p y → GenerationsIndexed p.cap (hist p.log.now p.count) p.work.now
+    → get_or p.work.now (written_at * p.cap + (y.number - 1)) 0 ≡ generation_by (record_at p.log.now (y.number - 1)) (hist p.log.now (y.number - 1))
+written_is {p} {y} t i =
+    i.written.word (y.number - 1) (omega (arith, t.some, t.within, p.within))
+    ∙ cell_at generation_by p.log.now p.count (y.number - 1) (omega (arith, t.some, t.within))

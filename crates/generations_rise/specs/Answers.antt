@@ -1,10 +1,8 @@
 -- What the answers of this crate's functions stand for in the rules.
-use Rattle.std.specs.Prelude.{Bool, cond, ◌&&◌, ◌||◌, not, List, ℕ, zero, suc, eqb, ltb, Option, None, Some}
+use Rattle.std.specs.Prelude.{Bool, ◌&&◌, ◌||◌, not, ℕ, eqb, ltb, Option, None, Some}
 use Rattle.record.specs.Records.{TraceRecord}
-use Rattle.rules.specs.Answers.{Found}
 use Rattle.rules.specs.History.{History}
 use Rattle.rules.specs.GenerationsRise.{Write}
-use Rattle.history.specs.Logs.{record_at}
 use Rattle.firsts.specs.Columns.{first_write}
 use Rattle.generations_rise.specs.declared.write.Written.{Written}
 use Rattle.generations_rise.specs.declared.write.Written.TheVariants.{Not, Unrated, Rated}
@@ -20,12 +18,6 @@ written_of (Some w) = rated_as w.generation
 
 unfoldable pub written_as : TraceRecord → History → Written
 written_as x h = written_of (first_write x h)
-
--- the generation of the record that `before` found among count
-unfoldable pub found_generation : List ℕ → ℕ → Found → Written
-found_generation log count None = Unrated
-found_generation log count (Some zero) = Unrated
-found_generation log count (Some (suc k)) = cond (ltb k count) (Rated (record_at log k).d) Unrated
 
 -- "a higher generation, or another range and the same generation"
 abbrev pub against : ℕ → ℕ → ℕ → ℕ → Bool

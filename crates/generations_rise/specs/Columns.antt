@@ -1,6 +1,6 @@
 -- The columns of `GenerationsRise`: the writes of a key that count and have a generation, and that generation. What they hold, and
 -- what a note promises.
-use Rattle.std.specs.Prelude.{◌≡◌, true, false, List, [], ◌∷◌, ℕ, ◌+◌, ◌-◌, ◌*◌, ◌%◌, ◌≤◌, ◌<◌, length, drop, get_or, Some}
+use Rattle.std.specs.Prelude.{◌≡◌, true, false, List, ◌∷◌, ℕ, ◌+◌, ◌-◌, ◌*◌, ◌%◌, ◌≤◌, ◌<◌, length, drop, get_or, fold, Some}
 use Rattle.record.specs.Keys.{Key, key_eqb}
 use Rattle.record.specs.Records.{TraceRecord}
 use Rattle.rules.specs.History.{History, Tells, is_kind, when, given, is_some}
@@ -22,12 +22,8 @@ rated_write x h = given (λ w. when (is_some w.generation) w) (first_write x h)
 abbrev pub rolled : ℕ → ℕ → ℕ
 rolled n b = n % 72057594037927936 * 256 + b
 
-unfoldable pub rolled_all : ℕ → List ℕ → ℕ
-rolled_all n [] = n
-rolled_all n (b ∷ bs) = rolled_all (rolled n b) bs
-
 abbrev pub key_number : Key → ℕ
-key_number key = rolled_all 0 (drop (length key - 8) key)
+key_number key = fold rolled 0 (drop (length key - 8) key)
 
 -- a key's bucket, by its length and its end
 unfoldable pub bucket_by_key : ℕ → Key → ℕ

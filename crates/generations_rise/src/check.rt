@@ -10,9 +10,9 @@ ghost use Rattle.generations_rise.specs.Columns.{GenerationsIndexed};
 ghost use Rattle.generations_rise.specs.Answers.{written_as, against};
 ghost use Rattle.history.specs.Pasts.{taken, Indexed};
 
-use history::past::Past;
 use crate::cells::{last_write_at, written_at};
 use crate::write::{Written, counts_as};
+use history::past::Past;
 use history::span::start_of;
 use record::Record;
 use record::field::{a, b};
@@ -26,28 +26,32 @@ fn is_against(range: u64, generation: u64, by: u64, last: u64) -> bool
 }
 
 // The case of a write that counts at a generation: only the key's last write is looked at.
+#[tactic(auto, using(crate::proofs::Cases::rise_none, crate::proofs::Cases::rise_against, crate::proofs::Cases::rise_clear))]
 fn rise_case(past: &Past, rec: &Record, generation: u64) -> Option<Fault>
-    ensures { Indexed GenerationsIndexed past.now → (report_of (at_last generations_at) (taken past.now)).verdict ≡ Pass → result ≡ rise_fault (write_of (decode rec.now) (taken past.now)) generation (writes (taken past.now)) }
+    ensures { let x = decode rec.now in
+        let h = taken past.now in
+        Indexed GenerationsIndexed past.now → (report_of (at_last generations_at) h).verdict ≡ Pass
+        → result ≡ rise_fault (write_of x h) generation (writes h) }
 {
-    let n = last_write_at(past, start_of(rec, 0));
-    if n == 0 {
-        return None;
-    }
-    let at = n - 1;
+    let write = last_write_at(past, start_of(rec, 0))?;
     let range = a(rec);
-    let by = a(past.record(at));
-    let last = written_at(past.work, past.cap, at);
+    let by = a(write.record);
+    let last = written_at(past, &write);
     if is_against(range, generation, by, last) {
         return Some(Fault::new(2, &[range, b(rec), generation, last, by]));
     }
     None
 }
 
-// The generations case of a record whose write counts as w, while the report is a pass.
-pub fn generations_case(past: &Past, rec: &Record, w: Written) -> Option<Fault>
-    ensures { Indexed GenerationsIndexed past.now → (report_of (at_last generations_at) (taken past.now)).verdict ≡ Pass → w ≡ written_as (decode rec.now) (taken past.now) → result ≡ generations_at (decode rec.now) (taken past.now) }
+// The generations case of a record whose write counts so, while the report is a pass.
+#[tactic(auto, using(crate::proofs::Cases::case_not, crate::proofs::Cases::case_unrated, crate::proofs::Cases::case_rated))]
+pub fn generations_case(past: &Past, rec: &Record, written: Written) -> Option<Fault>
+    ensures { let x = decode rec.now in
+        let h = taken past.now in
+        Indexed GenerationsIndexed past.now → (report_of (at_last generations_at) h).verdict ≡ Pass → written ≡ written_as x h
+        → result ≡ generations_at x h }
 {
-    match w {
+    match written {
         Written::Not => None,
         Written::Unrated => Some(Fault::new(1, &[a(rec), b(rec)])),
         Written::Rated(generation) => rise_case(past, rec, generation),
@@ -56,9 +60,8 @@ pub fn generations_case(past: &Past, rec: &Record, w: Written) -> Option<Fault>
 
 // The generations case of a record over the records taken, while the report is a pass.
 pub fn generations(past: &Past, rec: &Record) -> Option<Fault>
-    ensures { Indexed FirstsIndexed past.now → Indexed DescriptorsIndexed past.now → Indexed GenerationsIndexed past.now → (report_of (at_last generations_at) (taken past.now)).verdict ≡ Pass → result ≡ generations_at (decode rec.now) (taken past.now) }
+    ensures { Indexed FirstsIndexed past.now → Indexed DescriptorsIndexed past.now → Indexed GenerationsIndexed past.now
+        → (report_of (at_last generations_at) (taken past.now)).verdict ≡ Pass → result ≡ generations_at (decode rec.now) (taken past.now) }
 {
-    generations_case(past, rec,
-        counts_as(past, rec),
-    )
+    generations_case(past, rec, counts_as(past, rec))
 }

@@ -6,7 +6,6 @@ ghost use Rattle.history.specs.Bounds.{Bounds};
 ghost use Rattle.history.specs.Logs.{hist};
 ghost use Rattle.generations_rise.specs.Columns.{GenerationsNoted, GenerationsTaken};
 
-use record::Record;
 use crate::key::bucket_by_key;
 use crate::write::{Written, counts_as};
 use firsts::note::enter_write;
@@ -14,6 +13,7 @@ use history::chain::{enter, put};
 use history::past::Past;
 use history::place::{KEY_HEADS, KEY_LINKS, WRITTEN_AT};
 use history::span::start_of;
+use record::Record;
 
 // A write that counts and has no generation.
 fn note_unrated(work: &mut [u64], count: usize, cap: usize, rec: &Record)
@@ -39,12 +39,12 @@ fn note_rated(work: &mut [u64], count: usize, cap: usize, rec: &Record, generati
     put(work, WRITTEN_AT * cap + count, generation);
 }
 
-// Takes a record whose write counts as w, after those taken, into the columns of `GenerationsRise`.
-pub fn note_as(work: &mut [u64], count: usize, cap: usize, rec: &Record, w: Written)
+// Takes a record whose write counts so, after those taken, into the columns of `GenerationsRise`.
+pub fn note_as(work: &mut [u64], count: usize, cap: usize, rec: &Record, written: Written)
     requires { (32 * cap ≤ length work.old) × ((count < cap) × (cap ≤ 4096)) }
-    ensures { (h : History) → length h ≡ count → GenerationsNoted cap h (decode rec.now) w work.old work.new }
+    ensures { (h : History) → length h ≡ count → GenerationsNoted cap h (decode rec.now) written work.old work.new }
 {
-    match w {
+    match written {
         Written::Not => {}
         Written::Unrated => note_unrated(work, count, cap, rec),
         Written::Rated(generation) => note_rated(work, count, cap, rec, generation),
@@ -56,6 +56,12 @@ pub fn note(log: &[u8], work: &mut [u64], count: usize, cap: usize, rec: &Record
     requires { Bounds log.now work.old count cap × (count < cap) }
     ensures { GenerationsTaken cap (hist log.now count) (decode rec.now) work.old work.new }
 {
-    let w = counts_as(&Past { log, work, count, cap }, rec);
-    note_as(work, count, cap, rec, w);
+    let past = Past {
+        log,
+        work,
+        count,
+        cap,
+    };
+    let written = counts_as(&past, rec);
+    note_as(work, count, cap, rec, written);
 }
