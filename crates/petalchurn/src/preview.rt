@@ -6,9 +6,9 @@ ghost use Rattle.state_words.specs.StateWords.{IsState};
 ghost use Rattle.petalchurn.specs.Previews.{ShowsWords, PreviewsWords, CommitsWords};
 
 use crate::calls::take_into;
+use decision::refusal::Refusal;
 use decision::suits;
 use history::chain::clear;
-use decision::refusal::Refusal;
 use intake::preview::preview;
 use record::Record;
 use rows::ROWS;
