@@ -46,11 +46,11 @@ pub extern "C" fn petalchurn_push(
 
 // Shows what a push of a record would do, and gives a ticket to commit it with: state, log and work area are lent for reading only.
 #[unsafe(no_mangle)]
-pub extern "C" fn petalchurn_preview<'a>(
+pub extern "C" fn petalchurn_preview(
     state: &[u64],
-    log: &'a [u8],
+    log: &[u8],
     work: &[u64],
-    rec: &'a [u8],
+    rec: &[u8],
     reports: &mut [u64],
     ticket: &mut [u8],
 ) -> u64
