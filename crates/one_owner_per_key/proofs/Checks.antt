@@ -1,13 +1,12 @@
 -- Laws of what the checks look up, one for each way that the code can go.
 use mathlib.Core.Path.{◌≡◌, refl, sym, ap, ◌∙◌}
-use mathlib.Core.Bool.{Bool, true, false, cond, not, ◌&&◌, ◌||◌, and-false}
-use mathlib.Core.List.{List}
+use mathlib.Core.Bool.{Bool, true, false, cond, not, ◌&&◌, ◌||◌}
 use Rattle.std.specs.Prelude.{Option, None, Some, MatchOption}
-use Prim.Native.Nat.{ℕ, zero, suc, ◌+◌, ◌-◌, ◌*◌, ◌≤◌, ◌<◌}
+use Prim.Native.Nat.{ℕ, zero, suc, ◌+◌, ◌-◌, ◌*◌}
 use native.Mathlib.Omega.{arith}
 use lib.ListN.{length}
 use lib.Dec.{eqb, ltb}
-use borrow.Author.Tests.{lt-ltb, le-ltb, eq-eqb, ne_eqb}
+use borrow.Author.Tests.{le-ltb, ne_eqb}
 use Rattle.record.specs.declared.named.NodeId.{NodeId}
 use Rattle.record.specs.Records.{Span, TraceRecord, decode}
 use Rattle.rules.specs.Answers.{Found, found_at}
@@ -16,16 +15,15 @@ use Rattle.history.specs.declared.past.Past.{Past}
 use Rattle.history.specs.declared.walk.Taken.{Taken}
 use Rattle.history.specs.Pasts.{IsTaken, IsFound, number_of}
 use Rattle.history.proofs.Logs.{record_bytes}
-use Rattle.rules.specs.History.{History, is_kind, is_by, is_some, holds, lower}
+use Rattle.rules.specs.History.{History, is_kind, is_by, is_some, holds}
 use Rattle.rules.specs.Descriptors.{span_of}
 use Rattle.rules.specs.OneOwnerPerKey.{is_holding, hold_of, has_hold}
 use Rattle.history.specs.Logs.{record_at, hist}
 use Rattle.one_owner_per_key.specs.Numbers.{ends_all, latest_end, latest_hold, hold_number, latest_newly}
 use Rattle.one_owner_per_key.specs.Columns.{bit, newly_cell, ended_cell}
-use Rattle.record.proofs.Booleans.{never}
 use Rattle.rules.proofs.Marks.{by_itself}
 use Rattle.one_owner_per_key.proofs.Latest.{number_step}
-use Rattle.one_owner_per_key.proofs.Holds.{span_by, held_span, held_some, held_over, held_zero, held_if, held_by_ends}
+use Rattle.one_owner_per_key.proofs.Holds.{span_by, held_span, held_some, held_if, held_by_ends}
 use Rattle.one_owner_per_key.proofs.AsOf.{newly_cell_lem, ended_cell_lem}
 
 -- ---- what is held, by the latest that says so

@@ -6,7 +6,7 @@ use Prim.Native.Nat.{ℕ, zero, suc, ◌+◌, ◌<◌, ◌≤◌}
 use native.Mathlib.Omega.{arith}
 use native.Mathlib.Numerals.{add-one}
 use denote.Param.Members.{Mut, Called}
-use lib.ListN.{length, get_or, take, drop, drop_of_length-le, take-append-drop}
+use lib.ListN.{length, take, drop, drop_of_length-le, take-append-drop}
 use lib.Seq.{drop-cons}
 use Rattle.std.specs.Prelude.{Option, None, Some, MatchOption, IfSome, IsTrue, is_some, slice_get}
 use Rattle.std.specs.Int.{w64, from_be_bytes}

@@ -5,7 +5,7 @@ ghost use Rattle.std.specs.Prelude.{◌≡◌, ◌*◌, ◌≤◌, ◌<◌, leng
 ghost use Rattle.history.specs.Buckets.{bucket_by, bucket_by_two};
 ghost use Rattle.history.specs.Pasts.{Begins};
 ghost use Rattle.history.specs.Places.{hold_heads, hold_links, node_heads, node_links};
-ghost use Rattle.one_owner_per_key.specs.Columns.{hold_top_in, hold_below_in, node_top_in, node_below_in, end_in, newest_in, before_in};
+ghost use Rattle.one_owner_per_key.specs.Columns.{hold_top_in, hold_below_in, end_in, newest_in, before_in};
 
 use history::bucket::{bucket_by, bucket_by_two};
 use history::chain::link;
@@ -33,11 +33,7 @@ pub fn hold_bucket(cap: usize, node: NodeId, range: u64) -> usize
 pub fn hold_chain<'a>(past: &Past<'a>, node: NodeId, range: u64) -> Chain<'a>
     ensures { Begins past.now hold_heads hold_links (bucket_by_two past.now.cap node.0 range) result }
 {
-    past.chain(
-        HOLD_HEADS,
-        HOLD_LINKS,
-        hold_bucket(past.cap, node, range),
-    )
+    past.chain(HOLD_HEADS, HOLD_LINKS, hold_bucket(past.cap, node, range))
 }
 
 pub fn node_chain<'a>(past: &Past<'a>, node: NodeId) -> Chain<'a>
@@ -64,22 +60,6 @@ pub fn hold_below(work: &[u64], cap: usize, at: usize) -> usize
     ensures { (result ≤ at) × (result ≡ hold_below_in work.now cap at) }
 {
     link(work, HOLD_LINKS * cap + at, at)
-}
-
-// The latest record in the chain of a node, of the first count; 0 where there is none.
-pub fn node_top(work: &[u64], cap: usize, count: usize, node: NodeId) -> usize
-    requires { (32 * cap ≤ length work.now) × ((0 < cap) × (cap ≤ 4096)) }
-    ensures { (result ≤ count) × (result ≡ node_top_in work.now cap count node.0) }
-{
-    link(work, NODE_HEADS * cap + node_bucket(cap, node), count)
-}
-
-// The one below the record at a place in that chain.
-pub fn node_below(work: &[u64], cap: usize, at: usize) -> usize
-    requires { (32 * cap ≤ length work.now) × ((at < cap) × (cap ≤ 4096)) }
-    ensures { (result ≤ at) × (result ≡ node_below_in work.now cap at) }
-{
-    link(work, NODE_LINKS * cap + at, at)
 }
 
 // The number of a node's latest crash or refusal, read at its latest record; 0, the beginning before any record, where there is none.

@@ -55,8 +55,8 @@ fn hold_of<'a>(past: &Past<'a>, top: usize, node: NodeId, range: u64) -> Option<
     ensures within { number_of result ≤ top }
     ensures latest { Indexed OwnersIndexed past.now → number_of result ≡ latest_hold node.0 range (hist past.now.log.now top) }
 {
-    hold_chain(past, node, range)
-        .find(|old| (old.number <= top) & says_hold(old.record, node, range))
+    hold_chain(past, node, range).find(|old| (old.number <= top)
+        & says_hold(old.record, node, range))
 }
 
 // The record over whose span a node holds a range: the latest that says so, if that is a kind 1 or 2 and later than the
@@ -73,8 +73,7 @@ pub fn held_after<'a>(
     ensures within { number_of result ≤ top }
     ensures held { Indexed OwnersIndexed past.now → ended ≡ latest_end node.0 (hist past.now.log.now top) → number_of result ≡ hold_number node.0 range (hist past.now.log.now top) }
 {
-    hold_of(past, top, node, range)
-        .filter(|hold| (ended < hold.number) & is_holding(hold.record))
+    hold_of(past, top, node, range).filter(|hold| (ended < hold.number) & is_holding(hold.record))
 }
 
 // The number of the record over whose span a node holds a range, as of the first top records.
