@@ -1,43 +1,55 @@
 -- Laws of what the checks look up, one for each way that the code can go.
 use mathlib.Core.Path.{◌≡◌, refl, sym, ap, ◌∙◌}
-use mathlib.Core.Bool.{Bool, true, false, cond, not, ◌&&◌, ◌||◌, and-false}
-use mathlib.Core.List.{List}
-use Rattle.std.specs.Prelude.{Option, None, Some}
-use Prim.Native.Nat.{ℕ, zero, suc, ◌+◌, ◌-◌, ◌*◌, ◌≤◌, ◌<◌}
+use mathlib.Core.Bool.{Bool, true, false, cond, not, ◌&&◌, ◌||◌}
+use Rattle.std.specs.Prelude.{Option, None, Some, MatchOption}
+use Prim.Native.Nat.{ℕ, zero, suc, ◌+◌, ◌-◌, ◌*◌}
 use native.Mathlib.Omega.{arith}
 use lib.ListN.{length}
-use lib.Dec.{eqb}
-use borrow.Author.Tests.{lt-ltb, le-ltb, eq-eqb, ne_eqb}
+use lib.Dec.{eqb, ltb}
+use borrow.Author.Tests.{le-ltb, ne_eqb}
 use Rattle.record.specs.declared.named.NodeId.{NodeId}
-use Rattle.record.specs.Records.{Span, TraceRecord}
+use Rattle.record.specs.Records.{Span, TraceRecord, decode}
 use Rattle.rules.specs.Answers.{Found, found_at}
-use Rattle.rules.specs.History.{History, is_kind, is_by, is_some, holds, lower}
+use Rattle.std.proofs.lemmas.Map.Entries.{option_filter}
+use Rattle.history.specs.declared.past.Past.{Past}
+use Rattle.history.specs.declared.walk.Taken.{Taken}
+use Rattle.history.specs.Pasts.{IsTaken, IsFound, number_of}
+use Rattle.history.proofs.Logs.{record_bytes}
+use Rattle.rules.specs.History.{History, is_kind, is_by, is_some, holds}
 use Rattle.rules.specs.Descriptors.{span_of}
 use Rattle.rules.specs.OneOwnerPerKey.{is_holding, hold_of, has_hold}
 use Rattle.history.specs.Logs.{record_at, hist}
 use Rattle.one_owner_per_key.specs.Numbers.{ends_all, latest_end, latest_hold, hold_number, latest_newly}
 use Rattle.one_owner_per_key.specs.Columns.{bit, newly_cell, ended_cell}
-use Rattle.one_owner_per_key.specs.Answers.{is_below}
-use Rattle.record.proofs.Booleans.{never}
 use Rattle.rules.proofs.Marks.{by_itself}
 use Rattle.one_owner_per_key.proofs.Latest.{number_step}
-use Rattle.one_owner_per_key.proofs.Holds.{span_by, held_span, held_some, held_over, held_zero, held_if, held_by_ends}
+use Rattle.one_owner_per_key.proofs.Holds.{span_by, held_span, held_some, held_if, held_by_ends}
 use Rattle.one_owner_per_key.proofs.AsOf.{newly_cell_lem, ended_cell_lem}
 
 -- ---- what is held, by the latest that says so
 
-module _ (node range : ℕ) (log : List ℕ) (n : ℕ) {k ended : ℕ} (ek : k ≡ latest_hold node range (hist log n)) (ee : ended ≡ latest_end node (hist log n)) where
-  held_is : held_if log ended k ≡ hold_number node range (hist log n)
-  held_is = rw (ek, ee) (sym (held_by_ends node range log n))
+-- the code's test of it
+abbrev pub after : ℕ → Taken → Bool
+after ended y = ltb ended y.number && is_holding (decode y.record.now)
 
-  pub held_ended : k ≤ ended → 0 ≡ hold_number node range (hist log n)
-  held_ended l = rw (le-ltb ended k l) at held_is
+module _ (p : Past) where
+  after_is : (ended : ℕ) (y : Taken) → IsTaken p y → number_of (option_filter (after ended) (Some y)) ≡ held_if p.log.now ended y.number
+  after_is ended y t = go (ltb ended y.number) (is_holding (decode y.record.now)) (ap (λ (x : TraceRecord). is_holding x) (record_bytes p.log.now (y.number - 1) t.bytes))
+    where
+      go : (t u : Bool) → u ≡ is_holding (record_at p.log.now (y.number - 1))
+          → number_of (cond (t && u) (Some y) None) ≡ cond t (cond (is_holding (record_at p.log.now (y.number - 1))) y.number 0) 0
+      go false u e = refl
+      go true true e = rw (← e)
+      go true false e = rw (← e)
 
-  pub held_holds : {r : Bool} → ended < k → r ≡ is_holding (record_at log (k - 1)) → r ≡ true → k ≡ hold_number node range (hist log n)
-  held_holds l e t = let q : is_holding (record_at log (k - 1)) ≡ true = sym e ∙ t in rw (lt-ltb ended k l, q) at held_is
+  held_filter : (ended : ℕ) (o : Option Taken) → IsFound p o → number_of (option_filter (after ended) o) ≡ held_if p.log.now ended (number_of o)
+  held_filter ended None t = rw (le-ltb ended 0 (omega arith))
+  held_filter ended (Some y) t = after_is ended y t
 
-  pub held_lacks : {r : Bool} → ended < k → r ≡ is_holding (record_at log (k - 1)) → r ≡ false → 0 ≡ hold_number node range (hist log n)
-  held_lacks l e t = let q : is_holding (record_at log (k - 1)) ≡ false = sym e ∙ t in rw (lt-ltb ended k l, q) at held_is
+  pub held_number : (node range n : ℕ) {ended : ℕ} (o : Option Taken) {r : Option Taken} → IsFound p o → number_of o ≡ latest_hold node range (hist p.log.now n)
+      → ended ≡ latest_end node (hist p.log.now n) → r ≡ option_filter (after ended) o → number_of r ≡ hold_number node range (hist p.log.now n)
+  held_number node range n {ended} o f ek ee e =
+      ap number_of e ∙ held_filter ended o f ∙ rw (ek, ee) (sym (held_by_ends node range p.log.now n))
 
 -- ---- what was found
 
@@ -49,67 +61,36 @@ found_case (suc n) = ap not (ne_eqb (suc n) 0 (λ q. omega arith))
 pub found_held : (node range : ℕ) (h : History) {f : Found} → f ≡ found_at (hold_number node range h) → has_hold node range h ≡ is_some f
 found_held node range h e = held_some node range h ∙ found_case (hold_number node range h) ∙ ap is_some (sym e)
 
--- ---- a span that meets the one held
+-- a number is one of a record found
+some_number : (p : Past) (o : Option Taken) → IsFound p o → is_some o ≡ not (eqb (number_of o) 0)
+some_number p None t = refl
+some_number p (Some y) t = let z : y.number ≡ 0 → ⊥ = λ q. omega (arith, t.some) in rw (ne_eqb y.number 0 z)
 
-module _ (p : Span → Bool) (node range : ℕ) (log : List ℕ) (n : ℕ) {i : ℕ} (e : i ≡ hold_number node range (hist log n)) where
-  span_is : span_by log i ≡ hold_of node range (hist log n)
-  span_is = rw e (held_span node range log n)
+module _ (p : Past) (node range n : ℕ) (o : Option Taken) (t : IsFound p o) (e : number_of o ≡ hold_number node range (hist p.log.now n)) where
+  pub held_found : is_some o ≡ has_hold node range (hist p.log.now n)
+  held_found = some_number p o t ∙ ap (λ (k : ℕ). not (eqb k 0)) e ∙ sym (held_some node range (hist p.log.now n))
 
-  pub met_none : i ≡ 0 → false ≡ holds p (hold_of node range (hist log n))
-  met_none z = let s : None ≡ hold_of node range (hist log n) = rw (eq-eqb i 0 z) at span_is in ap (holds p) s
+  pub held_none : {t : Bool} → is_some o ≡ not t → t ≡ not (has_hold node range (hist p.log.now n))
+  held_none {t} q = go t (sym q ∙ held_found)
+    where
+      go : (t : Bool) → not t ≡ has_hold node range (hist p.log.now n) → t ≡ not (has_hold node range (hist p.log.now n))
+      go true e = rw (← e)
+      go false e = rw (← e)
 
-  pub met_some : {q : Bool} → (i ≡ 0 → ⊥) → q ≡ p (span_of 0 (record_at log (i - 1))) → q ≡ holds p (hold_of node range (hist log n))
-  met_some z g = let s : Some (span_of 0 (record_at log (i - 1))) ≡ hold_of node range (hist log n) = rw (ne_eqb i 0 z) at span_is in g ∙ ap (holds p) s
+  -- ---- a span that meets the one held
 
--- ---- the lowest so far
-
-pub lower_below : (r : ℕ) (o : Option ℕ) → is_below r o ≡ true → lower (λ n. n) r o ≡ Some r
-lower_below r None e = refl
-lower_below r (Some b) e = rw e
-
-pub lower_not : (r : ℕ) (o : Option ℕ) → is_below r o ≡ false → lower (λ n. n) r o ≡ o
-lower_not r None e = never refl e
-lower_not r (Some b) e = rw e
-
-cond_same : (t : Bool) (o : Option ℕ) → o ≡ cond t o o
-cond_same true o = refl
-cond_same false o = refl
-
--- a range more: b it is below, p it may not be met, q it is met
-module _ (r : ℕ) (o : Option ℕ) {b : Bool} (P Q : Bool) (eb : b ≡ is_below r o) where
-  pub lowered_above : b ≡ false → o ≡ cond (P && Q) (lower (λ n. n) r o) o
-  lowered_above t = rw (lower_not r o (sym eb ∙ t)) (cond_same (P && Q) o)
-
-  pub lowered_spared : {p : Bool} → p ≡ P → p ≡ false → o ≡ cond (P && Q) (lower (λ n. n) r o) o
-  lowered_spared e t = let z : P ≡ false = sym e ∙ t in rw z
-
-  pub lowered_apart : {q : Bool} → q ≡ Q → q ≡ false → o ≡ cond (P && Q) (lower (λ n. n) r o) o
-  lowered_apart e t = let z : Q ≡ false = sym e ∙ t in rw (z, and-false)
-
-  pub lowered_met : {p q : Bool} → b ≡ true → p ≡ P → p ≡ true → q ≡ Q → q ≡ true → Some r ≡ cond (P && Q) (lower (λ n. n) r o) o
-  lowered_met t ep tp eq tq =
-      let y : P ≡ true = sym ep ∙ tp in
-      let z : Q ≡ true = sym eq ∙ tq in
-      rw (y, z) (sym (lower_below r o (sym eb ∙ t)))
+  pub met_is : (m : Span → Bool) (r : Bool) {Gives : Taken → Type 0} → ((y : Taken) → Gives y → r ≡ m (span_of 0 (decode y.record.now)))
+      → MatchOption o (r ≡ false) Gives → r ≡ holds m (hold_of node range (hist p.log.now n))
+  met_is m r {Gives} calls g = go o t g (ap (span_by p.log.now) e ∙ held_span node range p.log.now n)
+    where
+      go : (o : Option Taken) → IsFound p o → MatchOption o (r ≡ false) Gives → span_by p.log.now (number_of o) ≡ hold_of node range (hist p.log.now n) → r ≡ holds m (hold_of node range (hist p.log.now n))
+      go None t g s = g ∙ ap (holds m) s
+      go (Some y) t g s =
+          let z : y.number ≡ 0 → ⊥ = λ q. omega (arith, t.some) in
+          let q : Some (span_of 0 (record_at p.log.now (y.number - 1))) ≡ hold_of node range (hist p.log.now n) = rw (ne_eqb y.number 0 z) at s in
+          calls y g ∙ ap (λ (x : TraceRecord). m (span_of 0 x)) (record_bytes p.log.now (y.number - 1) t.bytes) ∙ ap (holds m) q
 
 -- ---- the cells
-
-module _ (node : ℕ) (x : TraceRecord) (h : History) {p : Bool} (ep : p ≡ is_holding x) where
-  pub newly_not : p ≡ false → 0 ≡ bit (is_holding x && not (has_hold node x.a h))
-  newly_not e = let q : is_holding x ≡ false = sym ep ∙ e in rw q
-
-  module _ {range k : ℕ} (t : p ≡ true) (er : range ≡ x.a) (ek : k ≡ hold_number node range h) where
-    pub newly_free : k ≡ 0 → 1 ≡ bit (is_holding x && not (has_hold node x.a h))
-    newly_free z =
-        let q : is_holding x ≡ true = sym ep ∙ t in
-        let g : has_hold node range h ≡ false = held_zero node range h ek z in
-        rw (q, ← er, g)
-
-    pub newly_held : (k ≡ 0 → ⊥) → 0 ≡ bit (is_holding x && not (has_hold node x.a h))
-    newly_held z =
-        let q : is_holding x ≡ true = sym ep ∙ t in
-        let g : has_hold node range h ≡ true = held_over node range h ek z in
-        rw (q, ← er, g)
 
 module _ (n : NodeId) (x : TraceRecord) (h : History) (m : x.node ≡ Some n) where
   is_marked : is_by n.0 x ≡ true

@@ -1,21 +1,25 @@
 -- `find` along a chain for the latest of the first top records that passes a test.
-use mathlib.Core.Path.{◌≡◌, refl, sym, ◌∙◌}
-use mathlib.Core.Bool.{Bool, true, false}
+use mathlib.Core.Path.{◌≡◌, refl, sym, ap, ◌∙◌}
+use mathlib.Core.Bool.{Bool, true, false, ◌&&◌}
 use mathlib.Core.List.{List}
 use Prim.Native.Nat.{ℕ, ◌-◌, ◌*◌, ◌≤◌, ◌<◌}
 use native.Mathlib.Omega.{arith}
 use native.Mathlib.Decide.{dec_lt}
+use lib.Dec.{leb}
+use borrow.Author.Tests.{le-leb, leb-true}
 use denote.Param.Members.{Mut}
 use denote.Ref.{Bor}
 use Rattle.std.specs.Prelude.{Option}
 use Rattle.std.specs.Fn.{CalledAt}
 use Rattle.std.specs.Iterator.{FindsItem}
-use Rattle.record.specs.Records.{TraceRecord}
+use Rattle.record.specs.Records.{TraceRecord, decode}
 use Rattle.rules.specs.History.{History, Tells}
 use Rattle.history.specs.declared.past.Past.{Past}
 use Rattle.history.specs.declared.walk.Chain.{Chain}
 use Rattle.history.specs.declared.walk.Taken.{Taken}
-use Rattle.history.specs.Logs.{hist}
+use Rattle.record.proofs.Booleans.{and_left, and_right}
+use Rattle.history.proofs.Logs.{record_bytes}
+use Rattle.history.specs.Logs.{record_at, hist}
 use Rattle.history.specs.Columns.{Chained}
 use Rattle.history.specs.Pasts.{taken, IsTaken, Begins, Steps, number_of}
 use Rattle.history.proofs.Chains.{In}
@@ -67,3 +71,23 @@ module _ {F : Type 0} {g : Mut F (Bor Taken × Unit {0}) Bool} {f : F} {test : T
       number_of (sym (to_none t p.log.now top))
       (λ y k i n. let q = hit y k i n in to_hit t p.log.now top y.number k.some q.within q.passes) r u h l z e
       ∙ to_top t p.log.now top p.count upto
+
+-- where the test is of the record alone
+abbrev pub up_to_by : ℕ → (TraceRecord → Bool) → Taken → Bool
+up_to_by top q y = leb y.number top && q (decode y.record.now)
+
+module _ {F : Type 0} {g : Mut F (Bor Taken × Unit {0}) Bool} {f : F} (q : TraceRecord → Bool) (top : ℕ) (calls : Tests (CalledAt g) f (up_to_by top q))
+    {at : Tells ℕ} {b : ℕ} (s : Within (λ x _. q x) at b) {p : Past} (upto : top ≤ p.count) where
+  record_is : (y : Taken) → IsTaken p y → q (decode y.record.now) ≡ q (record_at p.log.now (y.number - 1))
+  record_is y t = ap q (record_bytes p.log.now (y.number - 1) t.bytes)
+
+  pub find_by : {down heads : ℕ} → Chained at heads (down * p.cap) p.cap (taken p) p.work.now
+      → (r : Option Taken) (u : Chain) {tops : ℕ} {c : Chain} → heads ≡ tops * p.cap → b < p.cap → Begins p tops down b c → FindsItem Steps g c f r u
+      → number_of r ≡ latest_number (λ x _. q x) (hist p.log.now top)
+  find_by {down} w =
+      find_latest calls s {down = down} top upto w
+      (λ y t e l. sym (record_is y t) ∙ (rw (le-leb y.number top l) at e))
+      (λ y t i e. record {
+        within = leb-true y.number top (and_left (leb y.number top) (q (decode y.record.now)) e);
+        passes = sym (record_is y t) ∙ and_right (leb y.number top) (q (decode y.record.now)) e;
+      })

@@ -8,7 +8,7 @@ use Prim.Native.Nat.{ℕ, zero, suc, ◌-◌, ◌≤◌, ◌<◌}
 use native.Mathlib.Omega.{arith}
 use lib.ListN.{length}
 use lib.Dec.{eqb, ltb, eqb-suc-zero}
-use borrow.Author.Tests.{lt-ltb, le-ltb, eqb-true, eq-eqb, ne_eqb}
+use borrow.Author.Tests.{lt-ltb, le-ltb, eqb-true}
 use Rattle.record.specs.Records.{Span, TraceRecord}
 use Rattle.rules.specs.History.{History, is_kind, is_by, is_some}
 use Rattle.rules.specs.Descriptors.{span_of}
@@ -71,13 +71,6 @@ held_some node range (x ∷ h) =
     (some_cases (length h) (hold_number node range h) (span_of 0 x) (hold_of node range h) (is_by node x) (is_holding x && eqb x.a range) (is_ending range x)
     (held_some node range h))
 
-module _ (node range : ℕ) (h : History) {k : ℕ} (e : k ≡ hold_number node range h) where
-  pub held_over : (k ≡ 0 → ⊥) → has_hold node range h ≡ true
-  held_over z = held_some node range h ∙ rw (← e, ne_eqb k 0 z)
-
-  pub held_zero : k ≡ 0 → has_hold node range h ≡ false
-  held_zero z = held_some node range h ∙ rw (← e, eq-eqb k 0 z)
-
 -- ---- the latest that says so, against the node's latest end
 
 -- what the code makes of the two: the latest that says so, where it is later and says that the range is held
@@ -94,9 +87,6 @@ holding_goes_on node x e =
 
 removal_goes_on : (node : ℕ) (x : TraceRecord) → is_kind 9 x ≡ true → ends_all node x ≡ false
 removal_goes_on node x e = rw (kind_apart 9 6 x (λ q. omega arith) e, kind_apart 9 10 x (λ q. omega arith) e, and-false)
-
-removal_holds_none : (x : TraceRecord) → is_kind 9 x ≡ true → is_holding x ≡ false
-removal_holds_none x e = rw (kind_apart 9 1 x (λ q. omega arith) e, kind_apart 9 2 x (λ q. omega arith) e)
 
 module _ (node range : ℕ) (log : List ℕ) where
   by_ends : ℕ → ℕ

@@ -7,3 +7,5 @@ pub mod Walks
 pub mod Checks
 pub mod Notes
 pub mod Founds
+pub mod Spans
+pub mod Since

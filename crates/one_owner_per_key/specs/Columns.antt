@@ -75,13 +75,6 @@ hold_top_in work cap count node range = clamp (get_or work (hold_heads * cap + b
 abbrev pub hold_below_in : List ℕ → ℕ → ℕ → ℕ
 hold_below_in work cap at = clamp (get_or work (hold_links * cap + at) 0) at
 
--- .. and of the chain of a node
-abbrev pub node_top_in : List ℕ → ℕ → ℕ → ℕ → ℕ
-node_top_in work cap count node = clamp (get_or work (node_heads * cap + bucket_by cap node) 0) count
-
-abbrev pub node_below_in : List ℕ → ℕ → ℕ → ℕ
-node_below_in work cap at = clamp (get_or work (node_links * cap + at) 0) at
-
 -- the node's latest end, read at its latest record
 abbrev pub end_in : List ℕ → ℕ → ℕ → ℕ
 end_in work cap last = cond (eqb last 0) 0 (clamp (get_or work (ended_at * cap + (last - 1)) 0) last)

@@ -3,11 +3,15 @@
 // first. Whatever a column holds, the answer is no later than what it is read at.
 ghost use Rattle.std.specs.Prelude.{◌≡◌, ◌*◌, ◌≤◌, ◌<◌, length};
 ghost use Rattle.history.specs.Buckets.{bucket_by, bucket_by_two};
-ghost use Rattle.one_owner_per_key.specs.Columns.{hold_top_in, hold_below_in, node_top_in, node_below_in, end_in, newest_in, before_in};
+ghost use Rattle.history.specs.Pasts.{Begins};
+ghost use Rattle.history.specs.Places.{hold_heads, hold_links, node_heads, node_links};
+ghost use Rattle.one_owner_per_key.specs.Columns.{hold_top_in, hold_below_in, end_in, newest_in, before_in};
 
 use history::bucket::{bucket_by, bucket_by_two};
 use history::chain::link;
+use history::past::Past;
 use history::place::{ENDED_AT, HOLD_HEADS, HOLD_LINKS, NEWLY_HELD, NODE_HEADS, NODE_LINKS};
+use history::walk::Chain;
 use record::named::NodeId;
 
 // The bucket of a node, and that of a node and a range.
@@ -15,14 +19,27 @@ pub fn node_bucket(cap: usize, node: NodeId) -> usize
     requires { (0 < cap) × (cap ≤ 4096) }
     ensures { (result ≡ bucket_by cap node.0) × (result < cap) }
 {
-    bucket_by(cap, node.0 as u64)
+    bucket_by(cap, u64::from(node.0))
 }
 
 pub fn hold_bucket(cap: usize, node: NodeId, range: u64) -> usize
     requires { (0 < cap) × (cap ≤ 4096) }
     ensures { (result ≡ bucket_by_two cap node.0 range) × (result < cap) }
 {
-    bucket_by_two(cap, node.0 as u64, range)
+    bucket_by_two(cap, u64::from(node.0), range)
+}
+
+// The records chained by a node and a range, from the newest on, and those of a node.
+pub fn hold_chain<'a>(past: &Past<'a>, node: NodeId, range: u64) -> Chain<'a>
+    ensures { Begins past.now hold_heads hold_links (bucket_by_two past.now.cap node.0 range) result }
+{
+    past.chain(HOLD_HEADS, HOLD_LINKS, hold_bucket(past.cap, node, range))
+}
+
+pub fn node_chain<'a>(past: &Past<'a>, node: NodeId) -> Chain<'a>
+    ensures { Begins past.now node_heads node_links (bucket_by past.now.cap node.0) result }
+{
+    past.chain(NODE_HEADS, NODE_LINKS, node_bucket(past.cap, node))
 }
 
 // The latest record in the chain of a node and a range, of the first count; 0 where there is none.
@@ -45,54 +62,37 @@ pub fn hold_below(work: &[u64], cap: usize, at: usize) -> usize
     link(work, HOLD_LINKS * cap + at, at)
 }
 
-// The latest record in the chain of a node, of the first count; 0 where there is none.
-pub fn node_top(work: &[u64], cap: usize, count: usize, node: NodeId) -> usize
-    requires { (32 * cap ≤ length work.now) × ((0 < cap) × (cap ≤ 4096)) }
-    ensures { (result ≤ count) × (result ≡ node_top_in work.now cap count node.0) }
-{
-    link(work, NODE_HEADS * cap + node_bucket(cap, node), count)
-}
-
-// The one below the record at a place in that chain.
-pub fn node_below(work: &[u64], cap: usize, at: usize) -> usize
-    requires { (32 * cap ≤ length work.now) × ((at < cap) × (cap ≤ 4096)) }
-    ensures { (result ≤ at) × (result ≡ node_below_in work.now cap at) }
-{
-    link(work, NODE_LINKS * cap + at, at)
-}
-
-// The number of a node's latest crash or refusal, read at its latest record.
-pub fn end_by(work: &[u64], cap: usize, last: usize) -> usize
-    requires { (32 * cap ≤ length work.now) × ((last ≤ cap) × (cap ≤ 4096)) }
-    ensures { (result ≤ last) × (result ≡ end_in work.now cap last) }
+// The number of a node's latest crash or refusal, read at its latest record; 0, the beginning before any record, where there is none.
+pub fn end_by(past: &Past, last: usize) -> usize
+    requires { last ≤ past.now.cap }
+    ensures { (result ≤ last) × (result ≡ end_in past.now.work.now past.now.cap last) }
 {
     if last == 0 {
-        return 0;
+        0
+    } else {
+        past.number(ENDED_AT, last - 1, last)
     }
-    link(work, ENDED_AT * cap + (last - 1), last)
 }
 
-// The latest record before this one at which its node newly held a range, 0 where there is none.
-pub fn newly_before(work: &[u64], cap: usize, k: usize) -> usize
-    requires { (32 * cap ≤ length work.now) × ((0 < k) × ((k ≤ cap) × (cap ≤ 4096))) }
-    ensures { (result < k) × (result ≡ before_in work.now cap k) }
+// The number of the latest record before this one at which its node newly held a range, 0 where there is none: as the words hold it.
+pub fn newly_before(past: &Past, k: usize) -> usize
+    requires { (0 < k) × (k ≤ past.now.cap) }
+    ensures { (result < k) × (result ≡ before_in past.now.work.now past.now.cap k) }
 {
-    let at = k - 1;
-    let i = (work[NEWLY_HELD * cap + at] / 2) as usize;
-    if at < i { 0 } else { i }
+    let before = (past.word(NEWLY_HELD, k - 1) / 2) as usize;
+    if k - 1 < before { 0 } else { before }
 }
 
-// The latest record up to this one at which its node newly held a range, 0 where there is none.
-pub fn latest_newly(work: &[u64], cap: usize, last: usize) -> usize
-    requires { (32 * cap ≤ length work.now) × ((last ≤ cap) × (cap ≤ 4096)) }
-    ensures { (result ≤ last) × (result ≡ newest_in work.now cap last) }
+// The number of the latest record up to this one at which its node newly held a range, 0 where there is none.
+pub fn latest_newly(past: &Past, last: usize) -> usize
+    requires { last ≤ past.now.cap }
+    ensures { (result ≤ last) × (result ≡ newest_in past.now.work.now past.now.cap last) }
 {
     if last == 0 {
-        return 0;
-    }
-    if work[NEWLY_HELD * cap + (last - 1)] % 2 == 1 {
+        0
+    } else if past.word(NEWLY_HELD, last - 1) % 2 == 1 {
         last
     } else {
-        newly_before(work, cap, last)
+        newly_before(past, last)
     }
 }

@@ -19,16 +19,13 @@ use rules::Fault;
 pub fn overlap(past: &Past, rec: &Record) -> Option<Fault>
     ensures { Indexed OwnersIndexed past.now → result ≡ overlap_at (decode rec.now) (taken past.now) }
 {
-    let marked = field::node(rec);
-    let Some(node) = marked else {
-        return None;
-    };
+    let node = field::node(rec)?;
     if !is_holding(rec) {
         return None;
     }
     let range = field::a(rec);
     let other = lowest_meeting(past, node, rec, 0, Others::Than(range))?;
-    Some(Fault::new(1, &[node.0 as u64, range, other]))
+    Some(Fault::new(1, &[u64::from(node.0), range, other]))
 }
 
 // The case of install, of one span. The Rust's `replaced`.
@@ -40,46 +37,29 @@ fn replaced_case(past: &Past, rec: &Record, tenant: u64, node: NodeId, k: usize)
         return None;
     }
     let range = lowest_meeting(past, node, rec, k, Others::NotNamed(tenant))?;
-    Some(Fault::new(1, &[node.0 as u64, range]))
+    Some(Fault::new(1, &[u64::from(node.0), range]))
 }
 
 // install: the first span of a kind 8 that names no group and meets a range that no start in the record names.
 pub fn install(past: &Past, rec: &Record, tenant: u64) -> Option<Fault>
     ensures { Indexed OwnersIndexed past.now → result ≡ install_at tenant (decode rec.now) (taken past.now) }
 {
-    let marked = field::node(rec);
-    let Some(node) = marked else {
-        return None;
-    };
+    let node = field::node(rec)?;
     if field::kind(rec) != 8 {
         return None;
     }
-    let n = field::span_count(rec);
-    let mut k = 0usize;
-    while k < n {
-        let c = replaced_case(past, rec, tenant, node, k);
-        if c.is_some() {
-            return c;
-        }
-        k += 1;
-    }
-    None
+    (0..field::span_count(rec)).find_map(|k| replaced_case(past, rec, tenant, node, k))
 }
 
 // twice: a RangeCreated of a range that its node holds already.
 pub fn twice(past: &Past, rec: &Record) -> Option<Fault>
     ensures { Indexed OwnersIndexed past.now → result ≡ twice_at (decode rec.now) (taken past.now) }
 {
-    let marked = field::node(rec);
-    let Some(node) = marked else {
-        return None;
-    };
+    let node = field::node(rec)?;
     if field::kind(rec) != 1 {
         return None;
     }
     let range = field::a(rec);
-    if held_by(past, past.count, node, range).is_some() {
-        return Some(Fault::new(1, &[node.0 as u64, range, field::b(rec)]));
-    }
-    None
+    held_by(past, past.count, node, range)?;
+    Some(Fault::new(1, &[u64::from(node.0), range, field::b(rec)]))
 }

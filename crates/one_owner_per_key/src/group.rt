@@ -11,22 +11,13 @@ use record::Record;
 use record::field::span_count;
 use record::key::key;
 
-// The number of four bytes and of eight, the first counting most.
-fn big32(s: &[u8], at: usize) -> u32
-    requires { at + 4 ≤ length s.now }
-    ensures { result ≡ big_endian (part at (at + 4) s.now) }
-{
-    256 * (256 * (256 * u32::from(s[at]) + u32::from(s[at + 1])) + u32::from(s[at + 2]))
-        + u32::from(s[at + 3])
-}
-
+// The number of eight bytes, the first counting most.
+#[tactic(auto, using(crate::proofs::Spans::be_number64))]
 fn big64(s: &[u8], at: usize) -> u64
     requires { at + 8 ≤ length s.now }
     ensures { result ≡ big_endian (part at (at + 8) s.now) }
 {
-    let high = big32(s, at) as u64;
-    let low = big32(s, at + 4) as u64;
-    0x1_0000_0000 * high + low
+    u64::from_be_bytes(*s[at..at + 8].as_array().unwrap())
 }
 
 // The group that the key in a place names.
@@ -37,11 +28,7 @@ pub fn group_of(place: &[u8], tenant: u64) -> Option<u64>
     if start.len() < 16 {
         return None;
     }
-    if big64(start, 0) == tenant {
-        Some(big64(start, 8))
-    } else {
-        None
-    }
+    (big64(start, 0) == tenant).then(|| big64(start, 8))
 }
 
 // Whether a place's key names a range.
@@ -55,13 +42,5 @@ fn names(place: &[u8], tenant: u64, range: u64) -> bool
 pub fn is_named(rec: &Record, tenant: u64, range: u64) -> bool
     ensures { result ≡ is_named tenant (decode rec.now).spans range }
 {
-    let n = span_count(rec);
-    let mut i = 0usize;
-    while i < n {
-        if names(start_of(rec, i), tenant, range) {
-            return true;
-        }
-        i += 1;
-    }
-    false
+    (0..span_count(rec)).any(|i| names(start_of(rec, i), tenant, range))
 }

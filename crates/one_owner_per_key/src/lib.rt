@@ -7,4 +7,5 @@ pub mod check;
 pub mod group;
 pub mod held;
 pub mod meeting;
+pub mod newly;
 pub mod note;

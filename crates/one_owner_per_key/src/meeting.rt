@@ -1,20 +1,19 @@
 // The lowest range that a node holds over a span that meets a record's. The ranges are those that the node came to hold
 // since its latest end, newest first: what it holds is among them.
-ghost use Rattle.std.specs.Prelude.{◌≡◌, cond, ◌&&◌, ◌<◌};
+ghost use Rattle.std.specs.Prelude.{◌≡◌, ◌<◌};
 ghost use Rattle.record.specs.Records.{decode};
-ghost use Rattle.rules.specs.History.{holds, lower};
+ghost use Rattle.rules.specs.History.{holds};
 ghost use Rattle.rules.specs.Descriptors.{span_of};
 ghost use Rattle.rules.specs.OneOwnerPerKey.{hold_of, lowest_meeting};
 ghost use Rattle.rules.specs.OneOwnerPerKey as rule;
 ghost use Rattle.one_owner_per_key.specs.Numbers.{latest_end};
 ghost use Rattle.one_owner_per_key.specs.Columns.{OwnersIndexed};
-ghost use Rattle.one_owner_per_key.specs.Answers.{is_below};
 ghost use Rattle.one_owner_per_key.specs.Answers as answer;
 ghost use Rattle.history.specs.Pasts.{taken, Indexed};
 
-use crate::cells::{end_by, latest_newly, newly_before};
 use crate::group::is_named;
-use crate::held::{held_after, latest_of};
+use crate::held::held_after;
+use crate::newly::NewlyHeld;
 use history::past::Past;
 use history::span::{end_of, start_of};
 use record::key::key_less;
@@ -43,11 +42,7 @@ fn meets(rec: &Record, k: usize, other: &Record) -> bool
     requires { k < 4 }
     ensures { result ≡ rule.meets (span_of k (decode rec.now)) (span_of 0 (decode other.now)) }
 {
-    if key_less(start_of(other, 0), end_of(rec, k)) {
-        key_less(start_of(rec, k), end_of(other, 0))
-    } else {
-        false
-    }
+    key_less(start_of(other, 0), end_of(rec, k)) && key_less(start_of(rec, k), end_of(other, 0))
 }
 
 // Whether a node holds a range over a span that meets the record's.
@@ -55,42 +50,7 @@ fn is_met(past: &Past, node: NodeId, range: u64, ended: usize, rec: &Record, k: 
     requires { k < 4 }
     ensures { Indexed OwnersIndexed past.now → ended ≡ latest_end node.0 (taken past.now) → result ≡ holds (rule.meets (span_of k (decode rec.now))) (hold_of node.0 range (taken past.now)) }
 {
-    let i = held_after(past, past.count, node, range, ended);
-    if i == 0 {
-        return false;
-    }
-    meets(rec, k, past.record(i - 1))
-}
-
-// Whether a range is below the lowest so far.
-fn is_below(range: u64, best: Option<u64>) -> bool
-    ensures { result ≡ is_below range best }
-{
-    best.is_none_or(|lowest| range < lowest)
-}
-
-// The lowest so far, with a range more.
-fn lowered(
-    past: &Past,
-    node: NodeId,
-    range: u64,
-    ended: usize,
-    rec: &Record,
-    k: usize,
-    others: Others,
-    best: Option<u64>,
-) -> Option<u64>
-    requires { k < 4 }
-    ensures { Indexed OwnersIndexed past.now → ended ≡ latest_end node.0 (taken past.now) → result ≡ cond (answer.passes others (decode rec.now).spans range && holds (rule.meets (span_of k (decode rec.now))) (hold_of node.0 range (taken past.now))) (lower (λ n. n) range best) best }
-{
-    if is_below(range, best) {
-        if passes(rec, others, range) {
-            if is_met(past, node, range, ended, rec, k) {
-                return Some(range);
-            }
-        }
-    }
-    best
+    held_after(past, past.count, node, range, ended).is_some_and(|held| meets(rec, k, held.record))
 }
 
 // The lowest range that may not be met and that a node holds over a span that meets the record's.
@@ -104,14 +64,12 @@ pub fn lowest_meeting(
     requires { k < 4 }
     ensures { Indexed OwnersIndexed past.now → result ≡ lowest_meeting (answer.passes others (decode rec.now).spans) (span_of k (decode rec.now)) node.0 (taken past.now) }
 {
-    let last = latest_of(past, past.count, node);
-    let ended = end_by(past.work, past.cap, last);
-    let mut best = None;
-    let mut i = latest_newly(past.work, past.cap, last);
-    while ended < i {
-        let range = field::a(past.record(i - 1));
-        best = lowered(past, node, range, ended, rec, k, others, best);
-        i = newly_before(past.work, past.cap, i);
-    }
-    best
+    let newly = NewlyHeld::of(past, node);
+    let ended = newly.ended;
+    newly
+        .map(|old| field::a(old.record))
+        .filter(|range| {
+            passes(rec, others, *range) && is_met(past, node, *range, ended, rec, k)
+        })
+        .min()
 }

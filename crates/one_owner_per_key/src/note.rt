@@ -30,31 +30,25 @@ pub struct Cells {
 fn is_chained(rec: &Record) -> bool
     ensures { result ≡ is_chained (decode rec.now) }
 {
-    let kind = field::kind(rec);
-    (kind == 1) | (kind == 2) | (kind == 7) | (kind == 9) | ((kind == 3) & (field::code(rec) == 4))
+    match field::kind(rec) {
+        1 | 2 | 7 | 9 => true,
+        3 => field::code(rec) == 4,
+        _ => false,
+    }
 }
 
 // Whether a record ends all that its node holds.
 fn is_end(rec: &Record) -> bool
     ensures { result ≡ is_kind 6 (decode rec.now) || is_kind 10 (decode rec.now) }
 {
-    let kind = field::kind(rec);
-    (kind == 6) | (kind == 10)
+    matches!(field::kind(rec), 6 | 10)
 }
 
-// 1 where a record makes a node hold a range that it does not hold, else 0.
-fn newly(past: &Past, rec: &Record, node: NodeId, ended: usize) -> u64
-    ensures within { result ≤ 1 }
-    ensures newly { Indexed OwnersIndexed past.now → ended ≡ latest_end node.0 (taken past.now) → result ≡ bit (is_holding (decode rec.now) && not (has_hold node.0 (decode rec.now).a (taken past.now))) }
+// Whether a record makes a node hold a range that it does not hold.
+fn is_newly_held(past: &Past, rec: &Record, node: NodeId, ended: usize) -> bool
+    ensures { Indexed OwnersIndexed past.now → ended ≡ latest_end node.0 (taken past.now) → result ≡ is_holding (decode rec.now) && not (has_hold node.0 (decode rec.now).a (taken past.now)) }
 {
-    if !is_holding(rec) {
-        return 0;
-    }
-    if held_after(past, past.count, node, field::a(rec), ended) == 0 {
-        1
-    } else {
-        0
-    }
+    is_holding(rec) && held_after(past, past.count, node, field::a(rec), ended).is_none()
 }
 
 // The number of a node's latest end with a record of its own, the next.
@@ -71,13 +65,11 @@ fn cells_of(past: &Past, rec: &Record, node: NodeId) -> Cells
     ensures { Indexed OwnersIndexed past.now → (decode rec.now).node ≡ Some node → (result.newly ≡ newly_cell (decode rec.now) (taken past.now)) × (result.ended ≡ ended_cell (decode rec.now) (taken past.now)) }
 {
     let last = latest_of(past, past.count, node);
-    let ended = end_by(past.work, past.cap, last);
-    let n = newly(past, rec, node, ended);
-    let before = latest_newly(past.work, past.cap, last);
-    let end = end_with(rec, past.count, ended);
+    let ended = end_by(past, last);
+    let newly = is_newly_held(past, rec, node, ended);
     Cells {
-        newly: 2 * (before as u64) + n,
-        ended: end as u64,
+        newly: 2 * latest_newly(past, last) as u64 + u64::from(newly),
+        ended: end_with(rec, past.count, ended) as u64,
     }
 }
 
@@ -86,16 +78,15 @@ fn enter_hold(work: &mut [u64], count: usize, cap: usize, rec: &Record, node: No
     requires { (32 * cap ≤ length work.old) × ((count < cap) × (cap ≤ 4096)) }
     ensures { EnteredIf (is_chained (decode rec.now)) work.old work.new (hold_heads * cap) (hold_links * cap) count (bucket_by_two cap node.0 (decode rec.now).a) }
 {
-    if !is_chained(rec) {
-        return;
+    if is_chained(rec) {
+        enter(
+            work,
+            HOLD_HEADS * cap,
+            HOLD_LINKS * cap,
+            count,
+            hold_bucket(cap, node, field::a(rec)),
+        );
     }
-    enter(
-        work,
-        HOLD_HEADS * cap,
-        HOLD_LINKS * cap,
-        count,
-        hold_bucket(cap, node, field::a(rec)),
-    );
 }
 
 // Notes a record as the next: before or after it is written to the log. One without a node leaves everything as it is.
@@ -103,20 +94,16 @@ pub fn note(log: &[u8], work: &mut [u64], count: usize, cap: usize, rec: &Record
     requires { Bounds log.now work.old count cap × (count < cap) }
     ensures { OwnersNoted cap (hist log.now count) (decode rec.now) work.old work.new }
 {
-    let marked = field::node(rec);
-    let Some(node) = marked else {
+    let Some(node) = field::node(rec) else {
         return;
     };
-    let cells = cells_of(
-        &Past {
-            log,
-            work,
-            count,
-            cap,
-        },
-        rec,
-        node,
-    );
+    let past = Past {
+        log,
+        work,
+        count,
+        cap,
+    };
+    let cells = cells_of(&past, rec, node);
     enter_hold(work, count, cap, rec, node);
     enter(
         work,

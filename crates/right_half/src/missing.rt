@@ -31,7 +31,7 @@ fn is_lacking(past: &Past, node: NodeId, ended: usize, refused: usize, t: usize,
     requires { t < past.now.count }
     ensures { Indexed Known past.now → ended ≡ latest_end node.0 (taken past.now) → refused ≡ refused_number node.0 (taken past.now) → result ≡ lacks_split past.now.log.now past.now.count node.0 t right }
 {
-    if held_after(past, past.count, node, right, ended) != 0 {
+    if held_after(past, past.count, node, right, ended).is_some() {
         return false;
     }
     if !has_part(past, past.count, node, past.record(t)) {
@@ -67,7 +67,7 @@ pub fn lowest_missing(past: &Past, node: NodeId) -> Option<u64>
     ensures { Indexed Known past.now → result ≡ lowest_of (λ n. n) (is_missing node.0 (taken past.now)) (map (λ s. s.right) (registered (taken past.now))) }
 {
     let last = latest_of(past, past.count, node);
-    let ended = end_by(past.work, past.cap, last);
+    let ended = end_by(past, last);
     let refused = refused_by(past.work, past.cap, last);
     let mut best = None;
     let mut i = registering_by(past.work, past.cap, past.count);

@@ -1,50 +1,27 @@
--- No start before i names the range.
-use mathlib.Core.Path.{refl, sym, ap, ◌∙◌}
-use native.Mathlib.Omega.{arith}
+-- Span by span.
+use mathlib.Core.Path.{refl, ◌∙◌}
 use mathlib.Core.Bool.{Bool}
+use native.Mathlib.Omega.{arith}
 use Prim.Native.Nat.{ℕ}
 use lib.Dec.{eqb}
-use Rattle.record.specs.Keys.{Key}
+use borrow.Author.Tests.{tests}
+use Rattle.std.proofs.Common.{rules}
+use Rattle.std.proofs.lemmas.Iterator.{YieldsList-from_range}
+use Rattle.std.proofs.lemmas.Iterator.Search.{any_from_yields_List}
 use Rattle.record.specs.Records.{Span, decode}
 use Rattle.rules.specs.History.{holds}
+use Rattle.rules.specs.Descriptors.{span_of}
 use Rattle.rules.specs.OneOwnerPerKey.{group_of, is_named}
-use Rattle.rules.proofs.Spans.{any_hit, any_miss, any_end}
+use Rattle.one_owner_per_key.proofs.Spans.{any_spans}
 use Rattle.one_owner_per_key.proofs.group.is_named.Goals as goal
 
--- a key, and a span's start, names the range
-abbrev naming : ℕ → ℕ → Key → Bool
-naming tenant range key = holds (λ (g : ℕ). eqb g range) (group_of tenant key)
-
 abbrev named : ℕ → ℕ → Span → Bool
-named tenant range s = naming tenant range s.start
-
-pub loop-i-init : goal.loop-i-init
-unfolding is_named
-loop-i-init c = (omega arith, c.span_count-n.ensures.0, c.span_count-n.ensures.1, refl)
-
-pub returns-then-names : goal.returns-then-names
-returns-then-names c =
-    let l = c.loop-i in
-    let a = c.args in
-    sym (l.invariant.3 ∙ any_hit (decode a.rec.now) l.i (named a.tenant a.range) (omega (arith, l.invariant.1))
-    (ap (naming a.tenant a.range) (sym c.start_of.ensures) ∙ sym c.names.ensures ∙ c.if-names.true))
-
-pub loop-i-smaller : goal.loop-i-smaller
-loop-i-smaller c = omega arith
-
-pub loop-i-preserved : goal.loop-i-preserved
-loop-i-preserved c =
-    let l = c.loop-i in
-    let a = c.args in (
-      omega arith,
-      l.invariant.1,
-      l.invariant.2,
-      l.invariant.3 ∙ any_miss (decode a.rec.now) l.i (named a.tenant a.range) (omega (arith, l.invariant.1))
-          (ap (naming a.tenant a.range) (sym c.start_of.ensures) ∙ sym c.names.ensures ∙ c.if-names.false),
-    )
+named tenant range s = holds (λ (g : ℕ). eqb g range) (group_of tenant s.start)
 
 pub returns : goal.returns
+unfolding is_named
 returns c =
-    let l = c.loop-i in
-    let a = c.args in
-    sym (l.invariant.3 ∙ any_end (decode a.rec.now) l.i (named a.tenant a.range) (omega (arith, l.invariant.1)))
+    let x = decode c.args.rec.now in
+    let n = c.span_count.result in
+    any_from_yields_List (λ k. named c.args.tenant c.args.range (span_of k x)) _ _ _ c.any.ensures.ran (YieldsList-from_range 0 n n refl (omega arith)) (λ k b q e. search (rules, tests))
+    ∙ any_spans x (named c.args.tenant c.args.range) n 0 (omega (arith, c.span_count.ensures.0))

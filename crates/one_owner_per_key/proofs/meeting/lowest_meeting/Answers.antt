@@ -1,56 +1,35 @@
--- Down the list of the ranges newly held, to the node's latest end: what is held is among them.
-use Rattle.history.proofs.Pasts.{bounds}
-use mathlib.Core.Path.{ap, ◌∙◌}
-use native.Mathlib.Omega.{arith}
-use Prim.Native.Nat.{◌-◌}
-use Rattle.record.specs.Records.{TraceRecord, decode}
+-- The least of the ranges newly held since the node's latest end, of those that may not be met and are.
+use mathlib.Core.Path.{refl, sym, ap, ◌∙◌}
+use mathlib.Core.List.{map-id}
+use borrow.Author.Tests.{tests}
+use Rattle.std.proofs.Common.{rules}
+use Rattle.std.proofs.lemmas.Iterator.{YieldsList-from_map}
+use Rattle.std.proofs.lemmas.Iterator.Adapters.{option_map_id}
+use Rattle.std.proofs.lemmas.Iterator.Consumers.{YieldsList-at, YieldsList-from_filter, min_from_yields_List}
+use Rattle.record.specs.Records.{decode}
 use Rattle.rules.specs.Descriptors.{span_of}
-use Rattle.history.specs.Logs.{record_at, hist}
-use Rattle.history.proofs.Logs.{record_bytes}
+use Rattle.history.specs.Pasts.{taken}
 use Rattle.one_owner_per_key.specs.Answers.{passes}
-use Rattle.one_owner_per_key.proofs.AsOf.{newly_by, end_is, newest_is, before_is}
-use Rattle.one_owner_per_key.proofs.Meets.{walked_first, walked_next, walked_lowest}
+use Rattle.one_owner_per_key.proofs.Meets.{least, met, lowest_since}
+use Rattle.one_owner_per_key.proofs.Since.{since, newly_yields}
 use Rattle.one_owner_per_key.proofs.meeting.lowest_meeting.Goals as goal
-
-pub loop-i-init : goal.loop-i-init
-loop-i-init c =
-    let a = c.args in (
-      omega (arith, c.latest_newly-i.ensures.0, c.latest_of-last.ensures.within),
-      λ ix. walked_first (passes a.others (decode a.rec.now).spans) (span_of a.k (decode a.rec.now)) a.node.0 a.past.now.log.now a.past.now.count
-          (c.end_by-ended.ensures.1 ∙ end_is a.past.now.log.now a.past.now.count a.node.0 ix a.past.now.within (omega arith)
-          (c.latest_of-last.ensures.latest ix))
-          (c.latest_newly-i.ensures.1 ∙ newest_is a.past.now.log.now a.past.now.count a.node.0 ix a.past.now.within (omega arith)
-          (c.latest_of-last.ensures.latest ix)),
-    )
-
-pub record-requires : goal.record-requires
-record-requires c = omega (arith, (bounds c.args.past.now), c.loop-i.invariant.0)
-
-pub newly_before-i-requires : goal.newly_before-i-requires
-newly_before-i-requires c =
-    omega (arith, (bounds c.args.past.now), c.loop-i.invariant.0)
-
-pub loop-i-smaller : goal.loop-i-smaller
-loop-i-smaller c = omega (arith, c.newly_before-i.ensures.0)
-
-pub loop-i-preserved : goal.loop-i-preserved
-loop-i-preserved c =
-    let l = c.loop-i in
-    let a = c.args in (
-      omega (arith, c.newly_before-i.ensures.0, l.invariant.0),
-      λ ix.
-          walked_next (l.invariant.1 ix) (omega arith)
-          (c.a-range.ensures ∙ ap (λ (x : TraceRecord). x.a) (record_bytes _ _ c.record.ensures))
-          (c.lowered-best.ensures ix (c.end_by-ended.ensures.1 ∙ end_is a.past.now.log.now a.past.now.count
-          a.node.0 ix a.past.now.within (omega arith) (c.latest_of-last.ensures.latest ix)))
-          (c.newly_before-i.ensures.1
-          ∙ before_is a.past.now.log.now a.past.now.count a.node.0 ix a.past.now.within l.i (omega arith) l.invariant.0
-          (newly_by a.node.0 (record_at a.past.now.log.now (l.i - 1)) (hist a.past.now.log.now (l.i - 1)) ((l.invariant.1 ix).here (omega arith)))),
-    )
 
 pub returns : goal.returns
 returns c =
     let a = c.args in
-    λ ix.
-    walked_lowest (passes a.others (decode a.rec.now).spans) (span_of a.k (decode a.rec.now)) a.node.0 a.past.now.log.now a.past.now.count
-    (c.loop-i.invariant.1 ix) c.loop-i-test.false
+    let p = a.past.now in
+    let s = span_of a.k (decode a.rec.now) in
+    let may = passes a.others (decode a.rec.now).spans in
+    λ k.
+    let e = c.of-newly.ensures.ended k in
+    sym (option_map_id _)
+    ∙ min_from_yields_List _ _ c.min.ensures.ran
+    (YieldsList-from_filter _ (met may s a.node.0 (taken p))
+    (YieldsList-at c.filter.ensures.source
+    (YieldsList-from_map _ (λ (r : _). r) (YieldsList-at c.map.ensures.source (newly_yields p a.node.0 c.of-newly.result.ended k c.of-newly.ensures refl))
+    c.map.ensures.closure
+    (λ x r q h. search (rules, tests))))
+    c.filter.ensures.closure
+    (λ x b q h. search (rules, tests)))
+    ∙ ap (least (met may s a.node.0 (taken p))) (map-id (since a.node.0 c.of-newly.result.ended (taken p)))
+    ∙ lowest_since may s a.node.0 p.log.now p.count e

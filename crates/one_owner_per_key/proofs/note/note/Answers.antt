@@ -1,6 +1,5 @@
 -- Each store is in its own column; the cells are those of the record.
 use mathlib.Core.Path.{sym, ◌∙◌}
-use native.Mathlib.Omega.{arith}
 use Rattle.record.specs.Records.{decode}
 use Rattle.history.specs.Logs.{hist}
 use Rattle.history.proofs.Logs.{hist_length}
@@ -10,31 +9,14 @@ use Rattle.one_owner_per_key.proofs.note.note.Goals as goal
 pub returns-in_default : goal.returns-in_default
 returns-in_default c =
     let a = c.args in
-    noted_unmarked a.cap (hist a.log.now a.count) (decode a.rec.now) (sym c.node-marked.ensures ∙ c.in_default.is)
+    noted_unmarked a.cap (hist a.log.now a.count) (decode a.rec.now) (sym c.node.ensures ∙ c.in_default.is)
     a.work.now
-
-pub overflow_mul-cap-4 : goal.overflow_mul-cap-4
-overflow_mul-cap-4 c =
-    omega (arith, c.requires)
-
-pub overflow_add-cap-2 : goal.overflow_add-cap-2
-overflow_add-cap-2 c =
-    omega (arith, c.requires)
-
-pub put-requires-2 : goal.put-requires-2
-put-requires-2 c =
-    omega (arith, c.requires)
 
 pub returns : goal.returns
 returns c =
-    let a =
-    c.args in
-    let p =
-    c.requires in
-    noted_marked a.cap (hist a.log.now a.count) (decode a.rec.now)
-    c.in-Some.node
-    (sym c.node-marked.ensures ∙ c.in-Some.is)
-    (hist_length a.log.now a.count) p.1
+    let a = c.args in
+    noted_marked a.cap (hist a.log.now a.count) (decode a.rec.now) c.in-Some.node (sym c.node.ensures ∙ c.in-Some.is)
+    (hist_length a.log.now a.count) c.requires.1
     c.enter_hold.ensures
     c.node_bucket.ensures
     c.enter.ensures
