@@ -1,5 +1,5 @@
 -- The work area as columns of C words, each a written function of the history, and chains of records through two of them.
-use Rattle.std.specs.Prelude.{◌≡◌, cond, List, [], ◌∷◌, ℕ, ◌+◌, ◌<◌, length, get_or, eqb, ltb, Option, None, Some}
+use Rattle.std.specs.Prelude.{◌≡◌, cond, List, [], ◌∷◌, ℕ, ◌+◌, ◌-◌, ◌<◌, length, get_or, eqb, ltb, Option, None, Some}
 use Rattle.record.specs.Records.{TraceRecord}
 use Rattle.rules.specs.History.{History, Tells, number_after, holds}
 
@@ -33,6 +33,10 @@ pub record Chained (f : Tells ℕ) (heads links cap : ℕ) (h : History) (work :
 -- a link that points no further than it may: whatever the work area holds, a walk goes down
 abbrev pub clamp : ℕ → ℕ → ℕ
 clamp x top = cond (ltb top x) 0 x
+
+-- the number of a record in the column that begins at base, as of the record with a number; 0 as of the beginning before any
+abbrev pub number_in : ℕ → List ℕ → ℕ → ℕ
+number_in base work last = cond (eqb last 0) 0 (clamp (get_or work (base + (last - 1)) 0) last)
 
 -- the work area with v at a place
 pub record Put (work work' : List ℕ) (at v : ℕ) : Type 0 where

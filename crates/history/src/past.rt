@@ -23,7 +23,7 @@ pub struct Past<'a> {
 impl<'a> Past<'a> {
     ghost use Rattle.std.specs.Prelude.{◌≡◌, ◌+◌, get_or};
     ghost use Rattle.history.specs.Logs.{bytes_at};
-    ghost use Rattle.history.specs.Columns.{clamp};
+    ghost use Rattle.history.specs.Columns.{clamp, number_in};
     ghost use Rattle.history.specs.Pasts.{Begins, IsFound, number_of};
 
     // The record at a place.
@@ -60,6 +60,18 @@ impl<'a> Past<'a> {
         ensures { (result ≤ top) × (result ≡ clamp (get_or self.now.work.now (column * self.now.cap + place) 0) top) }
     {
         link(self.work, column * self.cap + place, top)
+    }
+
+    // A record's number in a column, as of the record with a number; 0 as of the beginning before any.
+    pub fn number_as_of(&self, column: usize, last: usize) -> usize
+        requires { (column < 32) × (last ≤ self.now.cap) }
+        ensures { (result ≤ last) × (result ≡ number_in (column * self.now.cap) self.now.work.now last) }
+    {
+        if last == 0 {
+            0
+        } else {
+            self.number(column, last - 1, last)
+        }
     }
 
     // The records of a bucket, from the newest on: by a column of heads, a word for each bucket, and one of links, a word for each record.

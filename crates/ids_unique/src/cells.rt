@@ -14,11 +14,7 @@ pub fn block_below(past: &Past, n: usize) -> usize
     ensures below { result ≤ n }
     ensures latest { n ≤ past.now.count → Indexed IdsIndexed past.now → result ≡ latest_block (hist past.now.log.now n) }
 {
-    if n == 0 {
-        0
-    } else {
-        past.number(BLOCK_LINKS, n - 1, n)
-    }
+    past.number_as_of(BLOCK_LINKS, n)
 }
 
 // The greatest last among the blocks of the first n records, 0 where there is none: as the words hold it.

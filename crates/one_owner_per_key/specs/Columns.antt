@@ -4,7 +4,7 @@ use Rattle.record.specs.Named.{Node}
 use Rattle.record.specs.Records.{TraceRecord}
 use Rattle.rules.specs.History.{History, Tells, is_kind, when}
 use Rattle.history.specs.Buckets.{bucket_by, bucket_by_two}
-use Rattle.history.specs.Columns.{Column, cell_of, Chained, clamp, Entered}
+use Rattle.history.specs.Columns.{Column, cell_of, Chained, clamp, number_in, Entered}
 use Rattle.history.specs.Places.{hold_heads, hold_links, node_heads, node_links, newly_held, ended_at}
 use Rattle.one_owner_per_key.specs.Numbers.{latest_newly, latest_end, newly_holds}
 
@@ -68,16 +68,9 @@ pub record OwnersNoted (cap : ℕ) (h : History) (x : TraceRecord) (work work' :
 
 -- ---- what is read
 
--- the head of the chain of a node and a range, no further than the records taken; and the link at a place
-abbrev pub hold_top_in : List ℕ → ℕ → ℕ → ℕ → ℕ → ℕ
-hold_top_in work cap count node range = clamp (get_or work (hold_heads * cap + bucket_by_two cap node range) 0) count
-
-abbrev pub hold_below_in : List ℕ → ℕ → ℕ → ℕ
-hold_below_in work cap at = clamp (get_or work (hold_links * cap + at) 0) at
-
 -- the node's latest end, read at its latest record
 abbrev pub end_in : List ℕ → ℕ → ℕ → ℕ
-end_in work cap last = cond (eqb last 0) 0 (clamp (get_or work (ended_at * cap + (last - 1)) 0) last)
+end_in work cap last = number_in (ended_at * cap) work last
 
 -- the latest record before this one at which the node newly held a range
 abbrev pub before_in : List ℕ → ℕ → ℕ → ℕ

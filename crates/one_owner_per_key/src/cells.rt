@@ -5,10 +5,9 @@ ghost use Rattle.std.specs.Prelude.{◌≡◌, ◌*◌, ◌≤◌, ◌<◌, leng
 ghost use Rattle.history.specs.Buckets.{bucket_by, bucket_by_two};
 ghost use Rattle.history.specs.Pasts.{Begins};
 ghost use Rattle.history.specs.Places.{hold_heads, hold_links, node_heads, node_links};
-ghost use Rattle.one_owner_per_key.specs.Columns.{hold_top_in, hold_below_in, end_in, newest_in, before_in};
+ghost use Rattle.one_owner_per_key.specs.Columns.{end_in, newest_in, before_in};
 
 use history::bucket::{bucket_by, bucket_by_two};
-use history::chain::link;
 use history::past::Past;
 use history::place::{ENDED_AT, HOLD_HEADS, HOLD_LINKS, NEWLY_HELD, NODE_HEADS, NODE_LINKS};
 use history::walk::Chain;
@@ -42,36 +41,12 @@ pub fn node_chain<'a>(past: &Past<'a>, node: NodeId) -> Chain<'a>
     past.chain(NODE_HEADS, NODE_LINKS, node_bucket(past.cap, node))
 }
 
-// The latest record in the chain of a node and a range, of the first count; 0 where there is none.
-pub fn hold_top(work: &[u64], cap: usize, count: usize, node: NodeId, range: u64) -> usize
-    requires { (32 * cap ≤ length work.now) × ((0 < cap) × (cap ≤ 4096)) }
-    ensures { (result ≤ count) × (result ≡ hold_top_in work.now cap count node.0 range) }
-{
-    link(
-        work,
-        HOLD_HEADS * cap + hold_bucket(cap, node, range),
-        count,
-    )
-}
-
-// The one below the record at a place in that chain.
-pub fn hold_below(work: &[u64], cap: usize, at: usize) -> usize
-    requires { (32 * cap ≤ length work.now) × ((at < cap) × (cap ≤ 4096)) }
-    ensures { (result ≤ at) × (result ≡ hold_below_in work.now cap at) }
-{
-    link(work, HOLD_LINKS * cap + at, at)
-}
-
 // The number of a node's latest crash or refusal, read at its latest record; 0, the beginning before any record, where there is none.
 pub fn end_by(past: &Past, last: usize) -> usize
     requires { last ≤ past.now.cap }
     ensures { (result ≤ last) × (result ≡ end_in past.now.work.now past.now.cap last) }
 {
-    if last == 0 {
-        0
-    } else {
-        past.number(ENDED_AT, last - 1, last)
-    }
+    past.number_as_of(ENDED_AT, last)
 }
 
 // The number of the latest record before this one at which its node newly held a range, 0 where there is none: as the words hold it.

@@ -1,5 +1,5 @@
 // half, at a Took of a registered split, at a RangesRestated and at a registering.
-ghost use Rattle.std.specs.Prelude.{◌≡◌, true, not, ◌&&◌, [], ◌∷◌, map, ◌≤◌, ◌<◌, eqb, ltb, Some};
+ghost use Rattle.std.specs.Prelude.{◌≡◌, true, not, ◌&&◌, [], ◌∷◌, map, ◌<◌, eqb, ltb, Some};
 ghost use Rattle.record.specs.declared.named.ApplyEffect.TheVariants.{Took};
 ghost use Rattle.record.specs.Records.{decode};
 ghost use Rattle.rules.specs.History.{is_kind, is_by, any_of, holds, lowest_of};
@@ -9,6 +9,7 @@ ghost use Rattle.rules.specs.OneOwnerPerKey.{has_hold};
 ghost use Rattle.rules.specs.RightHalf.{Registered, server_of, registered, registers, owes, is_missing, missing_fault, registering_fault, half_at};
 ghost use Rattle.splits.specs.Numbers.{split_number, named_number};
 ghost use Rattle.splits.specs.Columns.{Known};
+ghost use Rattle.splits.specs.Walk.{split_of, IsSplit};
 ghost use Rattle.history.specs.Pasts.{taken, Indexed};
 
 use crate::lacking::lowest_lacking;
@@ -19,23 +20,17 @@ use one_owner_per_key::held::{held_by, latest_of};
 use record::named::NodeId;
 use record::{Record, field};
 use rules::Fault;
-use splits::cells::named_by;
-use splits::split::{has_taken, is_voter, parent_of, registers, right_of, split_of};
+use splits::split::{Split, has_taken, is_voter, parent_of, registers, right_of, split_of};
 use splits::state::server_of;
 
 // The fault of a right range that a node owes and does not hold, with its debt's parent and index. The Rust's `missing`.
 fn missing_case(past: &Past, kind: u8, node: NodeId, right: u64) -> Option<Fault>
     ensures { Indexed Known past.now → (s : Registered) → owes node.0 right (taken past.now) ≡ Some s → result ≡ fault kind (node.0 ∷ s.parent ∷ s.index ∷ right ∷ []) }
 {
-    let k = debt_of(past, node, right);
-    if k == 0 {
-        return None;
-    }
-    let found = past.record(k - 1);
-    Some(Fault::new(
-        kind,
-        &[node.0 as u64, parent_of(found), field::b(found), right],
-    ))
+    let debt = debt_of(past, node, right)?;
+    let parent = parent_of(debt.record);
+    let index = field::b(debt.record);
+    Some(Fault::new(kind, &[u64::from(node.0), parent, index, right]))
 }
 
 // The case of the lowest right range that a node owes and does not hold, where there is one.
@@ -61,36 +56,31 @@ fn is_above(right: u64, lowest: Option<u64>) -> bool
     lowest.is_some_and(|range| range < right)
 }
 
-// Whether the right range of the split that a record registered is the lowest that a node owes and does not hold, where
-// the node applies the split now; lowest: the lowest before that.
-fn is_lowest(past: &Past, found: &Record, node: NodeId, right: u64, lowest: Option<u64>) -> bool
-    ensures { Indexed Known past.now → result ≡ (any_of (λ v. eqb v (server_of node.0 (taken past.now)).0) (decode found.now).voters && not (has_hold node.0 right (taken past.now)) && not (holds (λ b. ltb b right) lowest)) }
+// Whether the right range of a split is the lowest that a node owes and does not hold, where the node applies the split now;
+// lowest: the lowest before that.
+fn is_lowest(past: &Past, split: &Split, node: NodeId, lowest: Option<u64>) -> bool
+    ensures { let x = decode split.now.record.now in
+        Indexed Known past.now → result ≡ (any_of (λ v. eqb v (server_of node.0 (taken past.now)).0) x.voters && not (has_hold node.0 split.now.right (taken past.now)) && not (holds (λ b. ltb b split.now.right) lowest)) }
 {
-    if is_above(right, lowest) {
+    if is_above(split.right, lowest) {
         return false;
     }
-    if !is_voter(found, server_of(past, past.count, node)) {
+    if !is_voter(split.record, server_of(past, past.count, node)) {
         return false;
     }
-    held_by(past, past.count, node, right).is_none()
+    held_by(past, past.count, node, split.right).is_none()
 }
 
-// half of a Took of the split that the record with the number k registered: the lowest of what the node owed before and
-// of that split's right range.
-fn taken_case(past: &Past, rec: &Record, node: NodeId, k: usize) -> Option<Fault>
-    requires { (0 < k) × (k ≤ past.now.count) }
-    ensures { Indexed Known past.now → k ≡ split_number (decode rec.now).a (decode rec.now).b (taken past.now) → is_by node.0 (decode rec.now) ≡ true → has_effect Took (decode rec.now) ≡ true → result ≡ missing_fault 1 node.0 (decode rec.now ∷ taken past.now) }
+// half of a Took of a registered split: the lowest of what the node owed before and of that split's right range.
+fn taken_case(past: &Past, rec: &Record, node: NodeId, split: &Split) -> Option<Fault>
+    requires { IsSplit past.now split.now }
+    ensures { Indexed Known past.now → split.now.number ≡ split_number (decode rec.now).a (decode rec.now).b (taken past.now) → is_by node.0 (decode rec.now) ≡ true → has_effect Took (decode rec.now) ≡ true → result ≡ missing_fault 1 node.0 (decode rec.now ∷ taken past.now) }
 {
-    let found = past.record(k - 1);
-    let right = right_of(
-        past.log,
-        past.count,
-        found,
-        named_by(past.work, past.cap, k - 1),
-    );
     let lowest = lowest_missing(past, node);
-    if is_lowest(past, found, node, right, lowest) {
-        return Some(Fault::new(1, &[node.0 as u64, field::a(rec), field::b(rec), right]));
+    if is_lowest(past, split, node, lowest) {
+        let parent = field::a(rec);
+        let index = field::b(rec);
+        return Some(Fault::new(1, &[u64::from(node.0), parent, index, split.right]));
     }
     lowest_case(past, 1, node, lowest)
 }
@@ -102,26 +92,26 @@ fn applied_case(past: &Past, rec: &Record, node: NodeId) -> Option<Fault>
     if !has_taken(rec) {
         return None;
     }
-    let k = split_of(past, past.count, field::a(rec), field::b(rec));
-    if k == 0 {
-        return None;
-    }
-    taken_case(past, rec, node, k)
+    let split = split_of(past, past.count, field::a(rec), field::b(rec))?;
+    taken_case(past, rec, node, &split)
 }
 
-// What half says of a record's registering: the lowest node that lacks the right range. `named` is the number of the record
-// that names it, 0 where the record registers nothing.
+// What half says of a record's registering: the lowest node that lacks the right range. `named` is the number of the record that
+// names it: the record itself, or one taken.
 fn registering_case(past: &Past, rec: &Record, named: usize) -> Option<Fault>
+    requires { 0 < named }
     ensures { Indexed Known past.now → named ≡ named_number (decode rec.now) (taken past.now) → result ≡ case_of (registering_fault (decode rec.now) (taken past.now)) (registers (decode rec.now) (taken past.now)) }
 {
-    if named == 0 {
-        return None;
-    }
+    let naming = past.numbered(named).map_or(rec, |old| old.record);
+    let split = Split {
+        number: past.count + 1,
+        record: rec,
+        right: right_of(rec, naming),
+    };
+    let node = lowest_lacking(past, &split)?;
     let parent = parent_of(rec);
     let index = field::b(rec);
-    let right = right_of(past.log, past.count, rec, named);
-    let node = lowest_lacking(past, rec, parent, index, right)?;
-    Some(Fault::new(2, &[node, parent, index, right]))
+    Some(Fault::new(2, &[node, parent, index, split.right]))
 }
 
 // half of a record that may register: kinds 1 and 2.
@@ -129,7 +119,7 @@ fn registered_case(past: &Past, rec: &Record, node: NodeId) -> Option<Fault>
     ensures { Indexed Known past.now → (decode rec.now).node ≡ Some node → result ≡ case_of (registering_fault (decode rec.now) (taken past.now)) (registers (decode rec.now) (taken past.now)) }
 {
     let last = latest_of(past, past.count, node);
-    let named = registers(past, rec, last);
+    let named = registers(past, rec, last)?;
     registering_case(past, rec, named)
 }
 
@@ -137,19 +127,11 @@ fn registered_case(past: &Past, rec: &Record, node: NodeId) -> Option<Fault>
 pub fn half(past: &Past, rec: &Record) -> Option<Fault>
     ensures { Indexed Known past.now → result ≡ half_at (decode rec.now) (taken past.now) }
 {
-    let marked = field::node(rec);
-    let Some(node) = marked else {
-        return None;
-    };
-    let kind = field::kind(rec);
-    if kind == 5 {
-        return restated_case(past, node);
+    let node = field::node(rec)?;
+    match field::kind(rec) {
+        5 => restated_case(past, node),
+        3 => applied_case(past, rec, node),
+        1 | 2 => registered_case(past, rec, node),
+        _ => None,
     }
-    if kind == 3 {
-        return applied_case(past, rec, node);
-    }
-    if (kind == 1) | (kind == 2) {
-        return registered_case(past, rec, node);
-    }
-    None
 }

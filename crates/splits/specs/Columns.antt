@@ -1,5 +1,5 @@
 -- The columns of nodes and splits in the work area, each word a written function of the history, and what a note promises of them.
-use Rattle.std.specs.Prelude.{◌≡◌, Bool, true, false, cond, not, ◌&&◌, List, ◌∷◌, ℕ, ◌+◌, ◌-◌, ◌*◌, ◌/◌, ◌%◌, ◌≤◌, ◌<◌, length, get_or, eqb, Some, None}
+use Rattle.std.specs.Prelude.{◌≡◌, Bool, true, false, cond, not, ◌&&◌, List, ◌∷◌, ℕ, ◌+◌, ◌-◌, ◌*◌, ◌/◌, ◌%◌, ◌≤◌, ◌<◌, length, get_or, eqb, Option, Some, None}
 use Rattle.record.specs.Named.{Node}
 use Rattle.record.specs.Records.{TraceRecord}
 use Rattle.rules.specs.History.{History, Tells, is_kind, when, given}
@@ -76,14 +76,14 @@ pub record HalfNoted (cap : ℕ) (h : History) (x : TraceRecord) (work work' : L
 -- ---- what is written of a record
 
 -- what is computed of it before anything is written
-pub record Celled (x : TraceRecord) (h : History) (r : Cells) : Type 0 where
+pub record Celled (cap : ℕ) (x : TraceRecord) (h : History) (r : Cells) : Type 0 where
   pub server : r.server ≡ server_cell x h
   pub restated : r.restated ≡ restated_cell x h
   pub refused : r.refused ≡ refused_cell x h
   pub pending : r.pending ≡ pending_cell x h
   pub registered : r.registered ≡ registered_cell x h
-  pub named : r.named ≡ named_number x h
-  pub records : r.records ≡ records_by x h x.node
+  pub split : r.split ≡ by_split cap x h
+  pub recording : r.recording ≡ by_recording cap x h
 
 -- the five cells written at the place n: all that changes
 pub record CellsPut (work work' : List ℕ) (cap n : ℕ) (r : Cells) : Type 0 where
@@ -96,20 +96,16 @@ pub record CellsPut (work work' : List ℕ) (cap n : ℕ) (r : Cells) : Type 0 w
   pub others : (j : ℕ) → (j ≡ server_at * cap + n → ⊥) → (j ≡ restated_at * cap + n → ⊥) → (j ≡ refused_at * cap + n → ⊥)
       → (j ≡ pending_at * cap + n → ⊥) → (j ≡ registered_by * cap + n → ⊥) → get_or work' j 0 ≡ get_or work j 0
 
--- a record entered into the chain of a bucket where it is one that is chained, and else nothing written
-pub record EnteredWhen (t : Bool) (work work' : List ℕ) (heads links n b : ℕ) : Type 0 where
-  pub entered : t ≡ true → Entered work work' heads links n b
-  pub left : t ≡ false → work' ≡ work
+-- a record entered into the chain of its bucket, where it is in one, and else nothing written
+abbrev pub EnteredIn : Option ℕ → List ℕ → List ℕ → ℕ → ℕ → ℕ → Type 0
+EnteredIn None work work' heads links n = work' ≡ work
+EnteredIn (Some b) work work' heads links n = Entered work work' heads links n b
 
 -- ---- what is read
 
 -- a node's own number where it has no record, and else the server read at its latest record
 abbrev pub server_in : List ℕ → ℕ → ℕ → ℕ → ℕ
 server_in work cap last node = cond (eqb last 0) node (get_or work (server_at * cap + (last - 1)) 0)
-
--- the number of a record, read at a node's latest record in the column that begins at base; 0 where it has no record
-abbrev pub number_in : ℕ → List ℕ → ℕ → ℕ
-number_in base work last = cond (eqb last 0) 0 (clamp (get_or work (base + (last - 1)) 0) last)
 
 -- the latest registering record so far
 abbrev pub registering_in : List ℕ → ℕ → ℕ → ℕ
@@ -118,17 +114,3 @@ registering_in work cap k = cond (eqb k 0) 0 (clamp (get_or work (registered_by 
 -- the record that names the right range of the split that the record at a place registers
 abbrev pub named_in : List ℕ → ℕ → ℕ → ℕ
 named_in work cap at = get_or work (registered_by * cap + at) 0 / 8192
-
--- the head of the chain of a parent and an index, no further than the records taken; and the link at a place
-abbrev pub split_top_in : List ℕ → ℕ → ℕ → ℕ → ℕ → ℕ
-split_top_in work cap count parent index = clamp (get_or work (split_heads * cap + split_bucket cap parent index) 0) count
-
-abbrev pub split_below_in : List ℕ → ℕ → ℕ → ℕ
-split_below_in work cap at = clamp (get_or work (split_links * cap + at) 0) at
-
--- .. and of the chain of a range's recorded indexes
-abbrev pub recorded_top_in : List ℕ → ℕ → ℕ → ℕ → ℕ
-recorded_top_in work cap count range = clamp (get_or work (recorded_heads * cap + recorded_bucket cap range) 0) count
-
-abbrev pub recorded_below_in : List ℕ → ℕ → ℕ → ℕ
-recorded_below_in work cap at = clamp (get_or work (recorded_links * cap + at) 0) at

@@ -9,9 +9,13 @@ use Rattle.history.specs.Logs.{record_at}
 abbrev pub parent_by : TraceRecord → ℕ
 parent_by y = cond (is_kind 1 y) y.c y.a
 
--- the right range: kind 1 is its own, and for kind 2 the RangeSplit with the number m names it
+-- the right range: kind 1 is its own, and for kind 2 the RangeSplit z names it
+abbrev pub right_named : TraceRecord → TraceRecord → ℕ
+right_named y z = cond (is_kind 1 y) y.a z.c
+
+-- .. which is the record with the number m
 abbrev pub right_by : List ℕ → TraceRecord → ℕ → ℕ
-right_by log y m = cond (is_kind 1 y) y.a (record_at log (m - 1)).c
+right_by log y m = right_named y (record_at log (m - 1))
 
 abbrev pub split_with : List ℕ → TraceRecord → ℕ → Registered
 split_with log y m = record { parent = parent_by y; index = y.b; right = right_by log y m; voters = y.voters }

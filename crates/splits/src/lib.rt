@@ -6,3 +6,4 @@ pub mod cells;
 pub mod note;
 pub mod split;
 pub mod state;
+pub mod walk;

@@ -1,19 +1,21 @@
 // What a record leaves in this crate's columns: its node's state with it, what it registers, and its places in the two
 // chains.
-ghost use Rattle.std.specs.Prelude.{◌≡◌, true, cond, not, ◌&&◌, ◌∷◌, ℕ, ◌+◌, ◌*◌, ◌≤◌, ◌<◌, length, eqb};
+ghost use Rattle.std.specs.Prelude.{◌≡◌, true, cond, not, ◌&&◌, ◌∷◌, ℕ, ◌+◌, ◌*◌, ◌≤◌, ◌<◌, length, eqb, IfSome};
 ghost use Rattle.record.specs.Records.{decode};
-ghost use Rattle.rules.specs.History.{is_kind, is_by};
-ghost use Rattle.history.specs.Logs.{hist};
-ghost use Rattle.history.specs.Places.{restated_at, refused_at, split_heads, split_links, recorded_heads, recorded_links};
-ghost use Rattle.one_owner_per_key.specs.Numbers.{latest_by};
+ghost use Rattle.rules.specs.Answers.{found_at};
+ghost use Rattle.rules.specs.History.{is_kind, is_by, is_some, when};
 ghost use Rattle.history.specs.Bounds.{Bounds};
-ghost use Rattle.splits.specs.Numbers.{pending_number};
-ghost use Rattle.splits.specs.Columns.{Known, HalfNoted, Celled, CellsPut, EnteredWhen, server_in, number_in, registering_in, split_bucket, recorded_bucket};
-ghost use Rattle.splits.specs.Splits.{parent_by};
+ghost use Rattle.history.specs.Columns.{number_in};
+ghost use Rattle.history.specs.Logs.{hist};
 ghost use Rattle.history.specs.Pasts.{taken, Indexed};
+ghost use Rattle.history.specs.Places.{restated_at, refused_at};
+ghost use Rattle.one_owner_per_key.specs.Numbers.{latest_by};
+ghost use Rattle.splits.specs.Numbers.{pending_number};
+ghost use Rattle.splits.specs.Columns.{Known, HalfNoted, Celled, CellsPut, EnteredIn, server_in, registering_in, split_bucket, recorded_bucket};
+ghost use Rattle.splits.specs.Splits.{parent_by};
 
 use crate::cells::{
-    pending_by, recorded_bucket, refused_by, registering_by, restated_by, server_by, split_bucket,
+    pending_by, recorded_bucket, refused_by, registering_by, restatement_by, server_by, split_bucket,
 };
 use crate::split::{parent_of, registers, uses_up};
 use history::chain::{enter, put};
@@ -26,8 +28,7 @@ use one_owner_per_key::held::latest_of;
 use record::named::NodeId;
 use record::{Record, field};
 
-// What is written of a record: the cells; the record that names the right range of the split it registers; whether it
-// records an index.
+// What is written of a record: the words of its five cells, and its buckets in the two chains, where it is in one.
 #[derive(Clone, Copy)]
 pub struct Cells {
     pub server: u64,
@@ -35,45 +36,42 @@ pub struct Cells {
     pub refused: u64,
     pub pending: u64,
     pub registered: u64,
-    pub named: usize,
-    pub records: bool,
+    pub split: Option<usize>,
+    pub recording: Option<usize>,
 }
 
 // The server of a record's node, with the record.
-fn server_with(work: &[u64], cap: usize, rec: &Record, last: usize, node: NodeId) -> u64
-    requires { (32 * cap ≤ length work.now) × ((last ≤ cap) × (cap ≤ 4096)) }
-    ensures { result ≡ cond (is_kind 4 (decode rec.now)) (decode rec.now).c (server_in work.now cap last node.0) }
+fn server_with(past: &Past, rec: &Record, last: usize, node: NodeId) -> u64
+    requires { last ≤ past.now.cap }
+    ensures { result ≡ cond (is_kind 4 (decode rec.now)) (decode rec.now).c (server_in past.now.work.now past.now.cap last node.0) }
 {
     if field::kind(rec) == 4 {
         return field::c(rec);
     }
-    server_by(work, cap, last, node).0
+    server_by(past, last, node).0
 }
 
-// The number of its latest RangesRestated since a crash.
-fn restated_with(work: &[u64], cap: usize, count: usize, rec: &Record, last: usize) -> usize
-    requires { (32 * cap ≤ length work.now) × ((last ≤ cap) × ((cap ≤ 4096) × (count < cap))) }
-    ensures { result ≡ cond (is_kind 5 (decode rec.now)) (count + 1) (cond (is_kind 6 (decode rec.now)) 0 (number_in (restated_at * cap) work.now last)) }
+// The number of its latest RangesRestated since a crash; 0, the beginning before any record, where there is none.
+fn restated_with(past: &Past, rec: &Record, last: usize) -> usize
+    requires { last ≤ past.now.count }
+    ensures { result ≡ cond (is_kind 5 (decode rec.now)) (past.now.count + 1) (cond (is_kind 6 (decode rec.now)) 0 (number_in (restated_at * past.now.cap) past.now.work.now last)) }
 {
-    let kind = field::kind(rec);
-    if kind == 5 {
-        return count + 1;
+    match field::kind(rec) {
+        5 => past.count + 1,
+        6 => 0,
+        _ => restatement_by(past, last).map_or(0, |mark| mark.number),
     }
-    if kind == 6 {
-        return 0;
-    }
-    restated_by(work, cap, last)
 }
 
 // The number of its latest refusal.
-fn refused_with(work: &[u64], cap: usize, count: usize, rec: &Record, last: usize) -> usize
-    requires { (32 * cap ≤ length work.now) × ((last ≤ cap) × ((cap ≤ 4096) × (count < cap))) }
-    ensures { result ≡ cond (is_kind 10 (decode rec.now)) (count + 1) (number_in (refused_at * cap) work.now last) }
+fn refused_with(past: &Past, rec: &Record, last: usize) -> usize
+    requires { last ≤ past.now.cap }
+    ensures { result ≡ cond (is_kind 10 (decode rec.now)) (past.now.count + 1) (number_in (refused_at * past.now.cap) past.now.work.now last) }
 {
     if field::kind(rec) == 10 {
-        return count + 1;
+        return past.count + 1;
     }
-    refused_by(work, cap, last)
+    refused_by(past, last)
 }
 
 // The number of its pending RangeSplit.
@@ -81,77 +79,78 @@ fn pending_with(past: &Past, rec: &Record, last: usize) -> usize
     requires { last ≤ past.now.count }
     ensures { Indexed Known past.now → (node : ℕ) → last ≡ latest_by node (taken past.now) → is_by node (decode rec.now) ≡ true → result ≡ pending_number node (decode rec.now ∷ taken past.now) }
 {
-    let kind = field::kind(rec);
-    if kind == 7 {
-        return past.count + 1;
-    }
-    if (kind == 6) | (kind == 10) {
-        return 0;
-    }
-    let k = pending_by(past.work, past.cap, last);
-    if k == 0 {
-        return 0;
-    }
-    if uses_up(rec, past.record(k - 1)) {
-        0
-    } else {
-        k
+    match field::kind(rec) {
+        7 => past.count + 1,
+        6 | 10 => 0,
+        _ => pending_by(past, last)
+            .filter(|split| !uses_up(rec, split.record))
+            .map_or(0, |split| split.number),
     }
 }
 
 // The word for what it registers: the record that names the right range, and the latest registering record so far.
-fn registered_with(work: &[u64], cap: usize, count: usize, named: usize) -> u64
-    requires { (32 * cap ≤ length work.now) × ((cap ≤ 4096) × ((count < cap) × (named ≤ count + 1))) }
-    ensures { result ≡ 8192 * named + cond (eqb named 0) (registering_in work.now cap count) (count + 1) }
+fn registered_with(past: &Past, named: Option<usize>) -> u64
+    requires { IfSome named (λ k. k ≤ past.now.count + 1) }
+    ensures { (k : ℕ) → named ≡ found_at k → result ≡ 8192 * k + cond (is_some named) (past.now.count + 1) (registering_in past.now.work.now past.now.cap past.now.count) }
 {
-    if named == 0 {
-        return registering_by(work, cap, count) as u64;
+    match named {
+        Some(number) => (8192 * number + past.count + 1) as u64,
+        None => registering_by(past, past.count) as u64,
     }
-    8192 * (named as u64) + ((count + 1) as u64)
 }
 
-// Whether it records an index: a RangeDescriptor of a node that is not restated.
-fn records_with(work: &[u64], cap: usize, rec: &Record, last: usize) -> bool
-    requires { (32 * cap ≤ length work.now) × ((last ≤ cap) × (cap ≤ 4096)) }
-    ensures { result ≡ (is_kind 2 (decode rec.now) && eqb (number_in (restated_at * cap) work.now last) 0) }
+// The bucket of the split that a record registers.
+fn split_with(past: &Past, rec: &Record, named: Option<usize>) -> Option<usize>
+    ensures within { IfSome result (λ b. b < past.now.cap) }
+    ensures is { result ≡ when (is_some named) (split_bucket past.now.cap (parent_by (decode rec.now)) (decode rec.now).b) }
 {
-    (field::kind(rec) == 2) & (restated_by(work, cap, last) == 0)
+    named.map(|_| split_bucket(past.cap, parent_of(rec), field::b(rec)))
+}
+
+// The bucket of a record that records an index: a RangeDescriptor of a node that is not restated.
+fn recording_with(past: &Past, rec: &Record, last: usize) -> Option<usize>
+    requires { last ≤ past.now.count }
+    ensures within { IfSome result (λ b. b < past.now.cap) }
+    ensures is { result ≡ when (is_kind 2 (decode rec.now) && eqb (number_in (restated_at * past.now.cap) past.now.work.now last) 0) (recorded_bucket past.now.cap (decode rec.now).a) }
+{
+    let records = (field::kind(rec) == 2) & restatement_by(past, last).is_none();
+    records.then(|| recorded_bucket(past.cap, field::a(rec)))
 }
 
 // The cells of a record.
 fn cells_of(past: &Past, rec: &Record) -> Cells
     requires { past.now.count < past.now.cap }
-    ensures { Indexed Known past.now → Celled (decode rec.now) (taken past.now) result }
+    ensures within { (IfSome result.split (λ b. b < past.now.cap)) × (IfSome result.recording (λ b. b < past.now.cap)) }
+    ensures cells { Indexed Known past.now → Celled past.now.cap (decode rec.now) (taken past.now) result }
 {
-    let marked = field::node(rec);
-    let Some(node) = marked else {
+    let Some(node) = field::node(rec) else {
         return Cells {
             server: 0,
             restated: 0,
             refused: 0,
             pending: 0,
-            registered: registered_with(past.work, past.cap, past.count, 0),
-            named: 0,
-            records: false,
+            registered: registered_with(past, None),
+            split: None,
+            recording: None,
         };
     };
     let last = latest_of(past, past.count, node);
     let named = registers(past, rec, last);
     Cells {
-        server: server_with(past.work, past.cap, rec, last, node),
-        restated: restated_with(past.work, past.cap, past.count, rec, last) as u64,
-        refused: refused_with(past.work, past.cap, past.count, rec, last) as u64,
+        server: server_with(past, rec, last, node),
+        restated: restated_with(past, rec, last) as u64,
+        refused: refused_with(past, rec, last) as u64,
         pending: pending_with(past, rec, last) as u64,
-        registered: registered_with(past.work, past.cap, past.count, named),
-        named: named,
-        records: records_with(past.work, past.cap, rec, last),
+        registered: registered_with(past, named),
+        split: split_with(past, rec, named),
+        recording: recording_with(past, rec, last),
     }
 }
 
 // Writes the five cells.
-fn put_cells(work: &mut [u64], cap: usize, count: usize, cells: Cells)
+fn put_cells(work: &mut [u64], cap: usize, count: usize, cells: &Cells)
     requires { (32 * cap ≤ length work.old) × ((count < cap) × (cap ≤ 4096)) }
-    ensures { CellsPut work.old work.new cap count cells }
+    ensures { CellsPut work.old work.new cap count cells.now }
 {
     put(work, SERVER_AT * cap + count, cells.server);
     put(work, RESTATED_AT * cap + count, cells.restated);
@@ -160,38 +159,14 @@ fn put_cells(work: &mut [u64], cap: usize, count: usize, cells: Cells)
     put(work, REGISTERED_BY * cap + count, cells.registered);
 }
 
-// Enters a record that registers a split into the chain of its parent and index.
-fn enter_split(work: &mut [u64], cap: usize, count: usize, rec: &Record, named: usize)
-    requires { (32 * cap ≤ length work.old) × ((count < cap) × (cap ≤ 4096)) }
-    ensures { EnteredWhen (not (eqb named 0)) work.old work.new (split_heads * cap) (split_links * cap) count (split_bucket cap (parent_by (decode rec.now)) (decode rec.now).b) }
+// Enters a record into the chain of its bucket, where it is in one.
+fn enter_in(work: &mut [u64], heads: usize, links: usize, count: usize, bucket: Option<usize>)
+    requires { IfSome bucket (λ b. (heads + b < links) × ((links + count < length work.old) × (count < 4096))) }
+    ensures { EnteredIn bucket work.old work.new heads links count }
 {
-    if named == 0 {
-        return;
+    if let Some(bucket) = bucket {
+        enter(work, heads, links, count, bucket);
     }
-    enter(
-        work,
-        SPLIT_HEADS * cap,
-        SPLIT_LINKS * cap,
-        count,
-        split_bucket(cap, parent_of(rec), field::b(rec)),
-    );
-}
-
-// Enters a record that records an index into the chain of its range.
-fn enter_recording(work: &mut [u64], cap: usize, count: usize, rec: &Record, records: bool)
-    requires { (32 * cap ≤ length work.old) × ((count < cap) × (cap ≤ 4096)) }
-    ensures { EnteredWhen records work.old work.new (recorded_heads * cap) (recorded_links * cap) count (recorded_bucket cap (decode rec.now).a) }
-{
-    if !records {
-        return;
-    }
-    enter(
-        work,
-        RECORDED_HEADS * cap,
-        RECORDED_LINKS * cap,
-        count,
-        recorded_bucket(cap, field::a(rec)),
-    );
 }
 
 // Notes a record as the next: before or after it is written to the log.
@@ -199,18 +174,14 @@ pub fn note(log: &[u8], work: &mut [u64], count: usize, cap: usize, rec: &Record
     requires { Bounds log.now work.old count cap × (count < cap) }
     ensures { HalfNoted cap (hist log.now count) (decode rec.now) work.old work.new }
 {
-    let cells = cells_of(
-        &Past {
-            log,
-            work,
-            count,
-            cap,
-        },
-        rec,
-    );
-    let named = cells.named;
-    let records = cells.records;
-    put_cells(work, cap, count, cells);
-    enter_split(work, cap, count, rec, named);
-    enter_recording(work, cap, count, rec, records);
+    let past = Past {
+        log,
+        work,
+        count,
+        cap,
+    };
+    let cells = cells_of(&past, rec);
+    put_cells(work, cap, count, &cells);
+    enter_in(work, SPLIT_HEADS * cap, SPLIT_LINKS * cap, count, cells.split);
+    enter_in(work, RECORDED_HEADS * cap, RECORDED_LINKS * cap, count, cells.recording);
 }

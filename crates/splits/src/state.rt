@@ -6,7 +6,7 @@ ghost use Rattle.history.specs.Logs.{hist};
 ghost use Rattle.splits.specs.Columns.{Known};
 ghost use Rattle.history.specs.Pasts.{Indexed};
 
-use crate::cells::{restated_by, server_by};
+use crate::cells::{restatement_by, server_by};
 use history::past::Past;
 use one_owner_per_key::held::latest_of;
 use record::named::{NodeId, ServerId};
@@ -17,7 +17,7 @@ pub fn server_of(past: &Past, top: usize, node: NodeId) -> ServerId
     ensures { Indexed Known past.now → result ≡ server_of node.0 (hist past.now.log.now top) }
 {
     let last = latest_of(past, top, node);
-    server_by(past.work, past.cap, last, node)
+    server_by(past, last, node)
 }
 
 // Whether a node is restated, as of the first top records.
@@ -26,5 +26,5 @@ pub fn is_restated(past: &Past, top: usize, node: NodeId) -> bool
     ensures { Indexed Known past.now → result ≡ is_restated node.0 (hist past.now.log.now top) }
 {
     let last = latest_of(past, top, node);
-    restated_by(past.work, past.cap, last) != 0
+    restatement_by(past, last).is_some()
 }

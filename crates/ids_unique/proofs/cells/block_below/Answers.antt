@@ -1,11 +1,7 @@
 -- The word as of the record before, which the column gives.
 use mathlib.Core.Path.{◌∙◌}
-use native.Mathlib.Omega.{arith}
-use Rattle.ids_unique.proofs.Blocks.{link_is, link_none}
+use Rattle.ids_unique.proofs.Blocks.{link_read}
 use Rattle.ids_unique.proofs.cells.block_below.Goals as goal
 
-pub returns-then-n-eq0-clause-latest : goal.returns-then-n-eq0-clause-latest
-returns-then-n-eq0-clause-latest c = λ l k. link_none _ l c.args.past.now.within k c.if-n-eq0.true
-
-pub returns-else-n-eq0-clause-latest : goal.returns-else-n-eq0-clause-latest
-returns-else-n-eq0-clause-latest c = λ l k. c.number.ensures.1 ∙ link_is _ l c.args.past.now.within k (omega arith)
+pub returns-clause-latest : goal.returns-clause-latest
+returns-clause-latest c = λ l k. c.number_as_of.ensures.1 ∙ link_read _ l c.args.past.now.within k
