@@ -13,7 +13,7 @@ use crate::owed::owes_first;
 use history::past::Past;
 use history::walk::Taken;
 use one_owner_per_key::held::is_by;
-use record::field;
+use record::{Record, field};
 use record::named::{NodeId, ServerId};
 use splits::split::{Split, has_taken, is_voter, parent_of, split_at, split_of};
 use splits::state::{is_restated, server_of};

@@ -25,7 +25,8 @@ use Rattle.rules.proofs.Marks.{by_marked}
 use Rattle.rules.proofs.Servers.{server_number, server_other, server_none}
 use Rattle.one_owner_per_key.proofs.Latest.{number_none, number_bound, number_is, number_miss, as_of}
 use Rattle.splits.specs.Numbers.{restated_number, refuses, refused_number, pending_number}
-use Rattle.splits.specs.Columns.{server_cell, restated_cell, refused_cell, pending_cell, server_in, number_in}
+use Rattle.splits.specs.Columns.{server_cell, restated_cell, refused_cell, pending_cell, server_in}
+use Rattle.history.specs.Columns.{number_in}
 
 -- a value by node that only the node's own records change, and the cell that has it
 pub record State (F : ℕ → History → ℕ) (cell : TraceRecord → History → ℕ) : Type 0 where
