@@ -62,7 +62,7 @@ pub found_held : (node range : ℕ) (h : History) {f : Found} → f ≡ found_at
 found_held node range h e = held_some node range h ∙ found_case (hold_number node range h) ∙ ap is_some (sym e)
 
 -- a number is one of a record found
-some_number : (p : Past) (o : Option Taken) → IsFound p o → is_some o ≡ not (eqb (number_of o) 0)
+pub some_number : (p : Past) (o : Option Taken) → IsFound p o → is_some o ≡ not (eqb (number_of o) 0)
 some_number p None t = refl
 some_number p (Some y) t = let z : y.number ≡ 0 → ⊥ = λ q. omega (arith, t.some) in rw (ne_eqb y.number 0 z)
 

@@ -5,3 +5,4 @@ pub mod Registered
 pub mod Noting
 pub mod Notes
 pub mod Openings
+pub mod Finding

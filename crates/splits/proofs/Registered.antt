@@ -14,14 +14,14 @@ use borrow.Author.Tests.{eqb-false, ne_eqb, not-true}
 use Rattle.record.specs.Named.{Node}
 use Rattle.record.specs.Records.{TraceRecord}
 use Rattle.record.proofs.Booleans.{none_some, never}
-use Rattle.rules.specs.History.{is_kind, is_some}
+use Rattle.rules.specs.History.{number_after, is_kind, is_some}
 use Rattle.rules.specs.RightHalf.{Registered, created_split, pending_split, pending, registered, is_registered, registers}
 use Rattle.rules.proofs.Members.{Mem, here, mem_nil}
 use Rattle.rules.proofs.Firsts.{add_mem}
 use Rattle.rules.proofs.Once.{registered_step}
 use Rattle.rules.proofs.Arising.{registered_nil, mem_step}
 use Rattle.history.specs.Logs.{record_at, hist}
-use Rattle.history.proofs.Logs.{hist_none, hist_suc}
+use Rattle.history.proofs.Logs.{hist_none, hist_length, hist_suc}
 use Rattle.one_owner_per_key.specs.Columns.{word_by}
 use Rattle.splits.specs.Numbers.{is_registering, names_number, named_number, pending_number}
 use Rattle.splits.specs.Splits.{parent_by, split_with}
@@ -99,6 +99,21 @@ unless_within log x m n k l = go (eqb m 0) k
     go true u = omega arith
     go false true = omega arith
     go false false = l
+
+-- what names a split is the record itself or an earlier one
+pub named_bound : (log : List ℕ) (x : TraceRecord) (n : ℕ) → named_number x (hist log n) ≤ suc n
+named_bound log x n =
+    rw (named_is log x n) (unless_within log x (word_by (λ j. names_number j x (hist log n)) x.node) (suc n) (is_registered (parent_by x) x.b (hist log n))
+    (go x.node))
+  where
+    either : (b u : Bool) (k : ℕ) → k ≤ n → cond b (number_after (hist log n)) (cond u k 0) ≤ suc n
+    either true u k l = omega (arith, hist_length log n)
+    either false true k l = omega arith
+    either false false k l = omega arith
+
+    go : (m : Node) → word_by (λ j. names_number j x (hist log n)) m ≤ suc n
+    go None = omega arith
+    go (Some m) = either _ _ (pending_number m.0 (hist log n)) (pending_bound m.0 log n)
 
 -- kind 2's right range is named by an earlier record
 pub named_range : (log : List ℕ) (x : TraceRecord) (n : ℕ) → is_registering x (hist log n) ≡ true → is_kind 1 x ≡ false

@@ -2,6 +2,7 @@
 use mathlib.Core.Path.{◌≡◌, refl, sym, ap, ◌∙◌}
 use mathlib.Core.Bool.{Bool, true, false, cond, not, ◌&&◌, ◌||◌}
 use mathlib.Core.List.{List, [], ◌∷◌}
+use mathlib.Core.Logic.{inl, inr}
 use Rattle.std.specs.Prelude.{Option, None, Some}
 use Prim.Native.Nat.{ℕ, suc, ◌+◌, ◌-◌, ◌≤◌, ◌<◌}
 use native.Mathlib.Omega.{arith}
@@ -21,7 +22,9 @@ use Rattle.history.specs.Logs.{record_at, hist}
 use Rattle.history.proofs.Logs.{hist_length}
 use Rattle.history.proofs.Chains.{In}
 use Rattle.one_owner_per_key.specs.Columns.{word_by}
-use Rattle.record.proofs.Booleans.{never, and_left, and_right}
+use Rattle.rules.specs.Answers.{found_at}
+use Rattle.rules.proofs.Answers.{found_none, found_at_lem}
+use Rattle.record.proofs.Booleans.{never, decide, and_left, and_right}
 use Rattle.rules.proofs.Marks.{kind_apart}
 use Rattle.one_owner_per_key.proofs.Latest.{number_none, number_step}
 use Rattle.one_owner_per_key.proofs.Walks.{Within}
@@ -43,22 +46,6 @@ created_test x p q r =
     (ap (λ (b : Bool). is_kind 1 x && b && eqb x.flag 1) (sym (split_code x.code))
     ∙ some_when {A = Registered} (is_kind 1 x && eqb (cause_number (cause_of x.code)) (cause_number Split) && eqb x.flag 1)
     (record { parent = x.c; index = x.b; right = x.a; voters = x.voters }))
-
--- a number from 1 to n is not 0 and not above n
-pub out_of_range : (k n : ℕ) → 0 < k → k ≤ n → eqb k 0 || ltb n k ≡ true → ⊥
-out_of_range k n l m e = never (rw (ne_eqb k 0 (λ z. omega arith), le-ltb n k m) at e) refl
-
-pub record Ranged (k n : ℕ) : Type 0 where
-  pub low : 0 < k
-  pub high : k ≤ n
-
-off_cases : (k n : ℕ) (p q : Bool) → eqb k 0 ≡ p → ltb n k ≡ q → p || q ≡ false → Ranged k n
-off_cases k n true q d f e = never refl e
-off_cases k n false true d f e = never refl e
-off_cases k n false false d f e = record { low = let z : k ≡ 0 → ⊥ = eqb-false k 0 d in omega arith; high = ltb-false n k f }
-
-pub or_off : (k n : ℕ) → eqb k 0 || ltb n k ≡ false → Ranged k n
-or_off k n e = off_cases k n (eqb k 0) (ltb n k) refl refl e
 
 -- ---- the split that a record names
 
@@ -112,21 +99,22 @@ module _ (log : List ℕ) (x : TraceRecord) where
       (pending_split x (pending m.0 (hist log n)))
       (λ e. pending_names m.0 n)
 
-  -- what it names, by what the code finds: n is the number of records taken, r whether it is a RangeCreated by a split, k its
-  -- node's pending RangeSplit, u whether it uses that up
+  -- what it names, by what the code finds: n is the number of records taken, r whether it is a RangeCreated by a split
   module _ (n node : ℕ) {r : Bool} (e : r ≡ is_some (created_split x)) where
-    pub names_itself : r ≡ true → n + 1 ≡ names_number node x (hist log n)
-    names_itself t = rw (← e, t, hist_length) (add-one n)
+    pub names_itself : r ≡ true → Some (n + 1) ≡ found_at (names_number node x (hist log n))
+    names_itself t = found_at_lem (rw (← e, t, hist_length) (add-one n)) (λ z. omega arith)
 
-    module _ {k : ℕ} (t : r ≡ false) (f : k ≡ pending_number node (hist log n)) where
-      pub names_none : k ≡ 0 → 0 ≡ names_number node x (hist log n)
-      names_none z = rw (← e, t, pending_is node log n, ← f, eq-eqb k 0 z)
+    -- .. and k its node's pending RangeSplit, u whether it uses that up
+    module _ (t : r ≡ false) {k : ℕ} (f : k ≡ pending_number node (hist log n)) where
+      pub names_none : k ≡ 0 → None ≡ found_at (names_number node x (hist log n))
+      names_none z = found_none {n = 0} (rw (← e, t, pending_is node log n, ← f, eq-eqb k 0 z)) refl
 
-      pub names_used : {u : Bool} → (k ≡ 0 → ⊥) → u ≡ uses_up x (pending_by (record_at log (k - 1))) → u ≡ true → k ≡ names_number node x (hist log n)
-      names_used z g h = rw (← e, t, pending_is node log n, ← f, ne_eqb k 0 z, ← g, h)
-
-      pub names_other : {u : Bool} → (k ≡ 0 → ⊥) → u ≡ uses_up x (pending_by (record_at log (k - 1))) → u ≡ false → 0 ≡ names_number node x (hist log n)
-      names_other z g h = rw (← e, t, pending_is node log n, ← f, ne_eqb k 0 z, ← g, h)
+      pub names_pending : {u : Bool} → (k ≡ 0 → ⊥) → u ≡ uses_up x (pending_by (record_at log (k - 1))) → cond u (Some k) None ≡ found_at (names_number node x (hist log n))
+      names_pending {u} z g =
+          elim (decide u) [
+            | inl h ↦ rw h (found_at_lem (rw (← e, t, pending_is node log n, ← f, ne_eqb k 0 z, ← g, h)) z)
+            | inr h ↦ rw h (found_none {n = 0} (rw (← e, t, pending_is node log n, ← f, ne_eqb k 0 z, ← g, h)) refl)
+          ]
 
   -- THE NAMING LAW
   pub names_split : (n : ℕ) → tells_split x (hist log n) ≡ split_as log x (word_by (λ k. names_number k x (hist log n)) x.node)
@@ -203,6 +191,18 @@ module _ (parent index : ℕ) where
   test_cases cap b log y m true e h = let z : ◌≡◌ {A = ℕ} 0 1 = cc in absurd (omega arith)
   test_cases cap b log y m false e h = refl
 
+  -- a record that registers it has its parent and index
+  pub split_passes : (log : List ℕ) (k : ℕ) → registers_as parent index (record_at log k) (hist log k) ≡ true
+      → eqb (parent_by (record_at log k)) parent && eqb (record_at log k).b index ≡ true
+  split_passes log k e =
+      let m = named_number (record_at log k) (hist log k) in
+      go m (eqb m 0) (ap (holds (is_split parent index)) (sym (registers_as_lem log (record_at log k) k)) ∙ e)
+    where
+      go : (m : ℕ) (t : Bool) → holds (is_split parent index) (cond t None (Some (split_with log (record_at log k) m))) ≡ true
+          → eqb (parent_by (record_at log k)) parent && eqb (record_at log k).b index ≡ true
+      go m true h = never h refl
+      go m false h = h
+
   pub split_test : (cap : ℕ) {b : ℕ} (log : List ℕ) (k : ℕ) → In (by_split cap) b log k
       → eqb (parent_by (record_at log k)) parent && eqb (record_at log k).b index ≡ registers_as parent index (record_at log k) (hist log k)
   unfolding by_split
@@ -221,11 +221,13 @@ module _ (log : List ℕ) (x : TraceRecord) (n : ℕ) (node : NodeId) (marked : 
       ∙ ap (λ (k : ℕ). unless_named log x k (is_registered (parent_by x) x.b (hist log n)))
       (ap (word_by (λ k. names_number k x (hist log n))) marked ∙ sym e)
 
-  pub registers_none : m ≡ 0 → 0 ≡ named_number x (hist log n)
-  registers_none z = sym (by_names ∙ rw (eq-eqb m 0 z))
+  pub registers_none : m ≡ 0 → None ≡ found_at (named_number x (hist log n))
+  registers_none z = found_none {n = 0} (sym (by_names ∙ rw (eq-eqb m 0 z))) refl
 
-  pub registers_known : {k : ℕ} → (m ≡ 0 → ⊥) → k ≡ split_number (parent_by x) x.b (hist log n) → (k ≡ 0 → ⊥) → 0 ≡ named_number x (hist log n)
-  registers_known {k} z f y = sym (by_names ∙ rw (ne_eqb m 0 z, known_is (parent_by x) x.b (hist log n), ← f, ne_eqb k 0 y))
+  pub registers_known : {k : ℕ} → (m ≡ 0 → ⊥) → k ≡ split_number (parent_by x) x.b (hist log n) → (k ≡ 0 → ⊥) → None ≡ found_at (named_number x (hist log n))
+  registers_known {k} z f y =
+      found_none {n = 0} (sym (by_names ∙ rw (ne_eqb m 0 z, known_is (parent_by x) x.b (hist log n), ← f, ne_eqb k 0 y))) refl
 
-  pub registers_new : {k : ℕ} → (m ≡ 0 → ⊥) → k ≡ split_number (parent_by x) x.b (hist log n) → k ≡ 0 → m ≡ named_number x (hist log n)
-  registers_new {k} z f y = sym (by_names ∙ rw (ne_eqb m 0 z, known_is (parent_by x) x.b (hist log n), ← f, eq-eqb k 0 y))
+  pub registers_new : {k : ℕ} → (m ≡ 0 → ⊥) → k ≡ split_number (parent_by x) x.b (hist log n) → k ≡ 0 → Some m ≡ found_at (named_number x (hist log n))
+  registers_new {k} z f y =
+      found_at_lem (sym (by_names ∙ rw (ne_eqb m 0 z, known_is (parent_by x) x.b (hist log n), ← f, eq-eqb k 0 y))) z
