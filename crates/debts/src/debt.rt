@@ -52,7 +52,7 @@ fn is_covered(rec: &Record, split: &Split, right: u64, server: ServerId) -> bool
 
 // Whether a split has a greater index than the best so far, where there is one.
 fn is_above(split: &Split, best: Option<Split>) -> bool
-    ensures { result ≡ is_above (option_map split_of best) (split_of split.now) }
+    ensures { result ≡ is_above (option_map split_of best.entry) (split_of split.now) }
 {
     best.is_none_or(|kept| field::b(kept.record) < field::b(split.record))
 }

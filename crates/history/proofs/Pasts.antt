@@ -64,6 +64,11 @@ module _ {p : Past} {down : ℕ} where
         ∙ ap (λ (i : ℕ). get_or (part (down * p.cap) ((down + 1) * p.cap) p.work.now) i 0) (sym k)
         ∙ get_d_part (down * p.cap) ((down + 1) * p.cap) (down * p.cap + (s.next - 1)) p.work.now (omega arith) (rw (add-mul, one-mul) (omega (arith, l, e.some)))
 
+-- the next record's number, by the word of the column
+pub next_word : {p : Past} {down : ℕ} {s t : Chain} {x : Taken} → OnPast p down s → Goes s x t
+    → t.next ≡ clamp (get_or p.work.now (down * p.cap + (s.next - 1)) 0) (s.next - 1)
+next_word {p} {s = s} o e = e.next ∙ ap (λ (n : ℕ). clamp n (s.next - 1)) (link_word o e (omega (arith, o.within, p.within)))
+
 -- in a turn: the record at hand is of the bucket, and x is still g up to it
 pub record AtTurn {A : Type 0} (f : Tells ℕ) (b : ℕ) (log : List ℕ) (g : ℕ → A) (x : A) (y : Taken) : Type 0 where
   pub here : In f b log (y.number - 1)
@@ -88,4 +93,4 @@ module _ {A : Type 0} {f : Tells ℕ} {p : Past} {down b : ℕ} (g : ℕ → A)
       → x ≡ g (y.number - 1) → Stands f b p.log.now g x t.next
   along_next {s = s} o e w q =
       stands_next g skip c (omega (arith, e.some, o.within)) p.within (w.here e.some) (q ∙ ap (λ (n : ℕ). g (n - 1)) e.number) refl
-      (e.next ∙ ap (λ (n : ℕ). clamp n (s.next - 1)) (link_word o e (omega (arith, o.within, p.within))))
+      (next_word o e)

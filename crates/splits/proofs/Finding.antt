@@ -7,7 +7,7 @@ use mathlib.Core.Logic.{inl, inr}
 use Prim.Native.Nat.{ℕ, zero, suc, ◌+◌, ◌-◌, ◌*◌, ◌%◌, ◌≤◌, ◌<◌}
 use lib.ListN.{get_or}
 use native.Mathlib.Omega.{arith}
-use native.Mathlib.Decide.{dec_lt}
+use native.Mathlib.Decide.{ℕ_discrete, dec_lt}
 use lib.Dec.{eqb, leb, ltb}
 use borrow.Author.Tests.{leb-true, le-leb, ne_eqb, lt-ltb, le-ltb}
 use denote.Param.Members.{Mut}
@@ -21,7 +21,7 @@ use Rattle.std.proofs.lemmas.Option.{same_Some}
 use Rattle.record.proofs.Booleans.{none_some, never, decide, and_left, and_right}
 use Rattle.rules.specs.Answers.{found_at}
 use Rattle.rules.specs.History.{is_some, holds}
-use Rattle.rules.specs.RightHalf.{pending_by, uses_up, created_split, is_split, registers}
+use Rattle.rules.specs.RightHalf.{pending_by, uses_up, created_split, Registered, is_split, registers}
 use Rattle.history.specs.declared.past.Past.{Past}
 use Rattle.history.specs.declared.walk.Chain.{Chain}
 use Rattle.history.specs.declared.walk.Taken.{Taken}
@@ -32,7 +32,7 @@ use Rattle.history.specs.Places.{split_heads, split_links}
 use Rattle.history.proofs.Finds.{Tests}
 use Rattle.history.proofs.Logs.{record_bytes}
 use Rattle.one_owner_per_key.proofs.Founds.{up_to_by, find_latest}
-use Rattle.one_owner_per_key.proofs.Latest.{passes_at, number_bound, number_is}
+use Rattle.one_owner_per_key.proofs.Latest.{passes_at, number_bound, number_is, number_over}
 use Rattle.one_owner_per_key.proofs.Walks.{two_below}
 use Rattle.splits.specs.declared.split.Split.{Split}
 use Rattle.splits.specs.declared.walk.Splits.{Splits}
@@ -205,3 +205,27 @@ module _ (p : Past) where
     pub walk_over : (t : Splits) → walk.Steps s None t → Indexed Known p → s.next ≡ 0
     walk_over t e ix = (subst (λ (q : Past). Indexed Known q
         → (0 < s.next → is_registering (record_at q.log.now (s.next - 1)) (hist q.log.now (s.next - 1)) ≡ true) → s.next ≡ 0) o.past e) ix (o.here ix)
+
+-- all that was registered from place i on, up to n, was passed: P holds of it
+abbrev pub Passed : (ℕ → Registered → Type 0) → List ℕ → ℕ → ℕ → Type 0
+Passed P log n i = (t : ℕ) (s : Registered) → i ≤ t → t < n → registers (record_at log t) (hist log t) ≡ Some s → P t s
+
+pub passed_first : (P : ℕ → Registered → Type 0) (log : List ℕ) (n : ℕ) {i : ℕ} → i ≡ latest_registering (hist log n) → Passed P log n i
+passed_first P log n e t s a b r = let o = number_over is_registering log n t b (ap is_some r) in absurd (omega (arith, o, e))
+
+-- one split more, and none between it and the one before it
+pub passed_next : {P Q : ℕ → Registered → Type 0} (p : Past) {x : Split} {n i j : ℕ} → IsSplit p x → Indexed Known p → x.number ≡ i → Passed P p.log.now n i
+    → ((t : ℕ) (s : Registered) → P t s → Q t s) → Q (x.number - 1) (split_of x) → j ≡ latest_registering (hist p.log.now (i - 1)) → Passed Q p.log.now n j
+passed_next {Q = Q} p {x} {i = i} z ix k w more here e t s a b r =
+    elim (ℕ_discrete t (i - 1)) [
+      | yes q ↦
+          let m : t ≡ x.number - 1 = omega (arith, q, k) in
+          let same : s ≡ split_of x =
+          same_Some _ _ (sym r ∙ ap (λ (l : ℕ). registers (record_at p.log.now l) (hist p.log.now l)) m ∙ z.is ix) in
+          subst (λ (v : Registered). Q t v) (sym same) (subst (λ (l : ℕ). Q l (split_of x)) (sym m) here)
+      | no q ↦
+          elim (dec_lt t (i - 1)) [
+            | yes c ↦ let o = number_over is_registering p.log.now (i - 1) t c (ap is_some r) in absurd (omega (arith, o, e))
+            | no c ↦ more t s (w t s (omega arith) b r)
+          ]
+    ]
