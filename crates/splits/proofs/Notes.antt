@@ -1,30 +1,21 @@
 -- Laws of noting a record: the cells are put one after the other, then the two chains are entered, and the columns say what
 -- they said, with the record.
-use mathlib.Core.Path.{◌≡◌, refl, sym, ap, ◌∙◌}
-use mathlib.Core.Bool.{Bool, true, false, cond, not}
+use mathlib.Core.Path.{◌≡◌, sym, ap, ◌∙◌}
 use mathlib.Core.List.{List, ◌∷◌}
-use mathlib.Core.Logic.{inl, inr}
 use Rattle.std.specs.Prelude.{Option, None, Some, IfSome}
 use Prim.Native.Nat.{ℕ, ◌+◌, ◌*◌, ◌≤◌, ◌<◌}
 use native.Mathlib.Omega.{arith}
 use native.Mathlib.Decide.{ℕ_discrete}
 use lib.ListN.{length, get_or}
-use lib.Dec.{eqb}
 use Rattle.record.specs.Records.{TraceRecord}
-use Rattle.rules.specs.History.{History, Tells, when, given}
-use Rattle.history.specs.Buckets.{fold, mix}
+use Rattle.rules.specs.History.{History, Tells}
 use Rattle.history.specs.Logs.{hist}
 use Rattle.history.specs.Columns.{Column, cell_of, Chained, Put}
 use Rattle.history.proofs.Logs.{hist_length}
-use Rattle.history.proofs.Cells.{cell_new, cell_old, Same}
+use Rattle.history.proofs.Cells.{cell_new, cell_old}
 use Rattle.history.proofs.Chains.{chained_agrees, entered, not_entered}
-use Rattle.one_owner_per_key.proofs.Walks.{bucket_below}
-use Rattle.record.proofs.Booleans.{decide}
 use Rattle.splits.specs.declared.note.Cells.{Cells}
-use Rattle.splits.specs.Numbers.{named_number}
-use Rattle.splits.specs.Columns.{split_bucket, by_split, recorded_bucket, records_by, by_recording, server_cell, restated_cell, refused_cell, pending_cell, registered_cell, Known, HalfNoted, Celled, CellsPut, EnteredIn}
-use Rattle.splits.specs.Splits.{parent_by, split_with, split_as}
-use Rattle.splits.proofs.Splits.{registers_as_lem}
+use Rattle.splits.specs.Columns.{server_cell, restated_cell, refused_cell, pending_cell, registered_cell, Known, HalfNoted, Celled, CellsPut, EnteredIn}
 
 -- ---- five puts
 

@@ -1,6 +1,5 @@
 -- Laws of what a record leaves in the columns: each cell with the record, and the columns one record on.
-use Rattle.std.specs.Prelude.{Option, Some, None, MatchOption, IfSome}
-use Rattle.std.specs.Option.{IsSomeAnd}
+use Rattle.std.specs.Prelude.{Option, Some, None, IfSome}
 use Rattle.std.proofs.lemmas.Map.Entries.{option_filter}
 use mathlib.Core.Path.{◌≡◌, refl, sym, ap, ◌∙◌}
 use mathlib.Core.Bool.{not-not, Bool, true, false, cond, not, ◌&&◌, ◌||◌}
@@ -11,7 +10,7 @@ use native.Mathlib.Omega.{arith}
 use native.Mathlib.Numerals.{add-one}
 use lib.ListN.{length, get_or}
 use lib.Dec.{eqb, eqb-suc-zero}
-use borrow.Author.Tests.{eq-eqb, ne_eqb}
+use borrow.Author.Tests.{ne_eqb}
 use Rattle.record.specs.declared.named.NodeId.{NodeId}
 use Rattle.record.specs.Records.{TraceRecord, decode}
 use Rattle.record.proofs.Booleans.{never}
@@ -86,9 +85,9 @@ left_is p x (Some y) f =
 -- ---- registering
 
 -- a record is named where its number is not 0
-pub found_some : (k : ℕ) → is_some (found_at k) ≡ not (eqb k 0)
-found_some zero = refl
-found_some (suc k) = rw eqb-suc-zero
+pub some_found : (k : ℕ) → is_some (found_at k) ≡ not (eqb k 0)
+some_found zero = refl
+some_found (suc k) = rw eqb-suc-zero
 
 split_cases : (cap : ℕ) (log : List ℕ) (x : TraceRecord) (k : ℕ) → when (is_some (found_at k)) (split_bucket cap (parent_by x) x.b)
     ≡ given (λ s. Some (split_bucket cap s.parent s.index)) (split_as log x k)
@@ -97,7 +96,7 @@ split_cases cap log x (suc k) = rw eqb-suc-zero
 
 module _ (log : List ℕ) (x : TraceRecord) (n : ℕ) {o : Option ℕ} (e : o ≡ found_at (named_number x (hist log n))) where
   named_some : is_some o ≡ is_registering x (hist log n)
-  named_some = ap is_some e ∙ found_some _ ∙ sym (registering_is log x n)
+  named_some = ap is_some e ∙ some_found _ ∙ sym (registering_is log x n)
 
   pub registered_after : {v k : ℕ} → ((m : ℕ) → o ≡ found_at m → v ≡ 8192 * m + cond (is_some o) (n + 1) k) → k ≡ latest_registering (hist log n)
       → v ≡ registered_cell x (hist log n)
@@ -140,9 +139,19 @@ module _ (log : List ℕ) {count cap : ℕ} {work : List ℕ} (col : Column (cel
 -- ---- recording
 
 -- nothing is found where the number is 0
-pub none_number : (p : Past) (o : Option Taken) → IsFound p o → is_some o ≡ not (eqb (number_of o) 0)
-none_number p None f = refl
-none_number p (Some y) f = rw (ne_eqb y.number 0 (λ z. omega (arith, f.some)))
+pub none_found : (p : Past) (o : Option Taken) {t : Bool} → IsFound p o → is_some o ≡ not t → t ≡ eqb (number_of o) 0
+none_found p o {t} f e = sym (not-not t) ∙ ap not (sym e) ∙ go o f
+  where
+    go : (o : Option Taken) → IsFound p o → not (is_some o) ≡ eqb (number_of o) 0
+    go None f = refl
+    go (Some y) f = sym (ne_eqb y.number 0 (λ z. omega (arith, f.some)))
+
+-- what a closure gives, called where a test holds
+pub gives_when : (v : ℕ) (b : Bool) (r : Option ℕ) → is_some r ≡ b → IfSome r (λ k. k ≡ v) → r ≡ when b v
+gives_when v true None e s = never refl (sym e)
+gives_when v true (Some k) e s = ap Some s
+gives_when v false None e s = refl
+gives_when v false (Some k) e s = never refl e
 
 in_recordings : (cap : ℕ) (x : TraceRecord) (h : History) {t : Bool} → t ≡ records_by x h x.node → when t (recorded_bucket cap x.a) ≡ by_recording cap x h
 unfolding by_recording
@@ -151,20 +160,6 @@ in_recordings cap x h e = rw e
 pub recording_after : (cap : ℕ) (x : TraceRecord) (h : History) (node : NodeId) {r : Option ℕ} {s : ℕ} → x.node ≡ Some node
     → r ≡ when (is_kind 2 x && eqb s 0) (recorded_bucket cap x.a) → s ≡ restated_number node.0 h → r ≡ by_recording cap x h
 recording_after cap x h node {s = s} m e f = e ∙ in_recordings cap x h (rw (m, restated_mark node.0 h, ← f, not-not (eqb s 0)))
-
--- ---- what a closure gives, once there is anything to give it for
-
-pub gives_when : (v : ℕ) (b : Bool) (r : Option ℕ) → is_some r ≡ b → IfSome r (λ k. k ≡ v) → r ≡ when b v
-gives_when v true None e s = never refl (sym e)
-gives_when v true (Some k) e s = ap Some s
-gives_when v false None e s = refl
-gives_when v false (Some k) e s = never refl e
-
-pub gives_each : {A : Type 0} {Gives : A → ℕ → Type 0} {P : ℕ → Type 0} → ((x : A) (k : ℕ) → Gives x k → P k) → (o : Option A) (r : Option ℕ)
-    → MatchOption o (r ≡ None) (λ x. IsSomeAnd r (Gives x)) → IfSome r P
-gives_each calls None r m = rw m tt
-gives_each calls (Some x) None m = absurd m
-gives_each calls (Some x) (Some k) m = calls x k m
 
 -- ---- a record without a node
 
