@@ -96,7 +96,9 @@ module _ (log : List ℕ) {cap n : ℕ} (x : TraceRecord) {r : Cells} {w0 w1 : L
 
   pub noted : HalfNoted cap (hist log n) x w0 w3
   noted = record {
-    len = entry_len cap n (30 * cap) (31 * cap) w2 w3 l (omega arith) r.recording recordings ∙ entry_len cap n (28 * cap) (29 * cap) w1 w2 l (omega arith) r.split splits ∙ put.len;
+    len =
+        entry_len cap n (30 * cap) (31 * cap) w2 w3 l (omega arith) r.recording recordings
+        ∙ entry_len cap n (28 * cap) (29 * cap) w1 w2 l (omega arith) r.split splits ∙ put.len;
     below = λ j m. other_word j (omega arith) (λ z. omega arith) (λ z. omega arith) (λ z. omega arith) (λ z. omega arith) (λ z. omega arith);
     names = λ j m o. other_word j (omega arith) (λ z. omega arith) (λ z. omega arith) (λ z. omega arith) (λ z. omega arith) (λ z. omega arith);
     above = λ j m. entries j (λ p q. omega arith) ∙ put_leaves j (omega arith);
