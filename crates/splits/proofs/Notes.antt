@@ -1,30 +1,21 @@
 -- Laws of noting a record: the cells are put one after the other, then the two chains are entered, and the columns say what
 -- they said, with the record.
-use mathlib.Core.Path.{◌≡◌, refl, sym, ap, ◌∙◌}
-use mathlib.Core.Bool.{Bool, true, false, cond, not}
+use mathlib.Core.Path.{◌≡◌, sym, ap, ◌∙◌}
 use mathlib.Core.List.{List, ◌∷◌}
-use mathlib.Core.Logic.{inl, inr}
-use Rattle.std.specs.Prelude.{None, Some}
+use Rattle.std.specs.Prelude.{Option, None, Some, IfSome}
 use Prim.Native.Nat.{ℕ, ◌+◌, ◌*◌, ◌≤◌, ◌<◌}
 use native.Mathlib.Omega.{arith}
 use native.Mathlib.Decide.{ℕ_discrete}
 use lib.ListN.{length, get_or}
-use lib.Dec.{eqb}
 use Rattle.record.specs.Records.{TraceRecord}
-use Rattle.rules.specs.History.{History, Tells, when, given}
-use Rattle.history.specs.Buckets.{fold, mix}
+use Rattle.rules.specs.History.{History, Tells}
 use Rattle.history.specs.Logs.{hist}
 use Rattle.history.specs.Columns.{Column, cell_of, Chained, Put}
 use Rattle.history.proofs.Logs.{hist_length}
-use Rattle.history.proofs.Cells.{cell_new, cell_old, Same}
+use Rattle.history.proofs.Cells.{cell_new, cell_old}
 use Rattle.history.proofs.Chains.{chained_agrees, entered, not_entered}
-use Rattle.one_owner_per_key.proofs.Walks.{bucket_below}
-use Rattle.record.proofs.Booleans.{decide}
 use Rattle.splits.specs.declared.note.Cells.{Cells}
-use Rattle.splits.specs.Numbers.{named_number}
-use Rattle.splits.specs.Columns.{split_bucket, by_split, recorded_bucket, records_by, by_recording, server_cell, restated_cell, refused_cell, pending_cell, registered_cell, Known, HalfNoted, Celled, CellsPut, EnteredIn}
-use Rattle.splits.specs.Splits.{parent_by, split_with, split_as}
-use Rattle.splits.proofs.Splits.{registers_as_lem}
+use Rattle.splits.specs.Columns.{server_cell, restated_cell, refused_cell, pending_cell, registered_cell, Known, HalfNoted, Celled, CellsPut, EnteredIn}
 
 -- ---- five puts
 
@@ -54,3 +45,91 @@ wrote g h x {base} {cap} {n} {v} {work} {work'} c e q p o = record {
         | no z ↦ o k l (λ y. z (y ∙ sym e)) ∙ c.word k l ∙ sym (cell_old g x h k z)
       ];
 }
+
+-- ---- the chains
+
+module _ (cap n heads links : ℕ) (work work' : List ℕ) (l : n < cap) (apart : heads + cap ≤ links) where
+  -- an entry leaves every word outside its two columns as it was
+  entry_leaves : (o : Option ℕ) → IfSome o (λ b. b < cap) → EnteredIn o work work' heads links n → (j : ℕ) → (heads ≤ j → j < links + cap → ⊥)
+      → get_or work' j 0 ≡ get_or work j 0
+  entry_leaves None m w j p = ap (λ (v : List ℕ). get_or v j 0) w
+  entry_leaves (Some b) m w j p = w.others j (λ z. p (omega arith) (omega arith)) (λ z. p (omega arith) (omega arith))
+
+  entry_len : (o : Option ℕ) → EnteredIn o work work' heads links n → length work' ≡ length work
+  entry_len None w = ap length w
+  entry_len (Some b) w = w.len
+
+  chained_in : {f : Tells ℕ} {h : History} {x : TraceRecord} → length h ≡ n → (o : Option ℕ) → o ≡ f x h → IfSome o (λ b. b < cap)
+      → EnteredIn o work work' heads links n → Chained f heads links cap h work → Chained f heads links cap (x ∷ h) work'
+  chained_in len None e m w c = rw w (not_entered (sym e) c)
+  chained_in len (Some b) e m w c = entered len l m apart (sym e) w c
+
+-- ---- all of it
+
+module _ (log : List ℕ) {cap n : ℕ} (x : TraceRecord) {r : Cells} {w0 w1 : List ℕ} (w2 w3 : List ℕ) (l : n < cap)
+    (within : (IfSome r.split (λ b. b < cap)) × (IfSome r.recording (λ b. b < cap)))
+    (known : Known cap (hist log n) w0 → Celled cap x (hist log n) r) (put : CellsPut w0 w1 cap n r)
+    (splits : EnteredIn r.split w1 w2 (28 * cap) (29 * cap) n)
+    (recordings : EnteredIn r.recording w2 w3 (30 * cap) (31 * cap) n) where
+  split_leaves : (j : ℕ) → (28 * cap ≤ j → j < 30 * cap → ⊥) → get_or w2 j 0 ≡ get_or w1 j 0
+  split_leaves j o = entry_leaves cap n (28 * cap) (29 * cap) w1 w2 l (omega arith) r.split within.0 splits j (λ p q. o p (omega arith))
+
+  recording_leaves : (j : ℕ) → (30 * cap ≤ j → j < 32 * cap → ⊥) → get_or w3 j 0 ≡ get_or w2 j 0
+  recording_leaves j o = entry_leaves cap n (30 * cap) (31 * cap) w2 w3 l (omega arith) r.recording within.1 recordings j (λ p q. o p (omega arith))
+
+  -- the entries leave a word outside the four columns
+  entries : (j : ℕ) → (28 * cap ≤ j → j < 32 * cap → ⊥) → get_or w3 j 0 ≡ get_or w1 j 0
+  entries j o = recording_leaves j (λ p q. o (omega arith) q) ∙ split_leaves j (λ p q. o p (omega arith))
+
+  -- a cell's word, and those of the other records in its column
+  cell_word : {v : ℕ} (c : ℕ) → c < 28 * cap → get_or w1 c 0 ≡ v → get_or w3 c 0 ≡ v
+  cell_word c o e = entries c (λ p q. omega arith) ∙ e
+
+  other_word : (j : ℕ) → j < 28 * cap → (j ≡ 22 * cap + n → ⊥) → (j ≡ 23 * cap + n → ⊥) → (j ≡ 24 * cap + n → ⊥) → (j ≡ 25 * cap + n → ⊥)
+      → (j ≡ 26 * cap + n → ⊥)
+      → get_or w3 j 0 ≡ get_or w0 j 0
+  other_word j o a b c d e = entries j (λ p q. omega arith) ∙ put.others j a b c d e
+
+  -- the cells leave the words of the chains
+  put_leaves : (j : ℕ) → 27 * cap ≤ j → get_or w1 j 0 ≡ get_or w0 j 0
+  put_leaves j m = put.others j (λ z. omega arith) (λ z. omega arith) (λ z. omega arith) (λ z. omega arith) (λ z. omega arith)
+
+  pub noted : HalfNoted cap (hist log n) x w0 w3
+  noted = record {
+    len =
+        entry_len cap n (30 * cap) (31 * cap) w2 w3 l (omega arith) r.recording recordings
+        ∙ entry_len cap n (28 * cap) (29 * cap) w1 w2 l (omega arith) r.split splits ∙ put.len;
+    below = λ j m. other_word j (omega arith) (λ z. omega arith) (λ z. omega arith) (λ z. omega arith) (λ z. omega arith) (λ z. omega arith);
+    names = λ j m o. other_word j (omega arith) (λ z. omega arith) (λ z. omega arith) (λ z. omega arith) (λ z. omega arith) (λ z. omega arith);
+    above = λ j m. entries j (λ p q. omega arith) ∙ put_leaves j (omega arith);
+    indexed = λ ow hf.
+        let cs = known (ow, hf) in
+        let len = hist_length log n in
+        record {
+          servers = wrote server_cell (hist log n) x hf.servers len cs.server (cell_word (22 * cap + n) (omega arith) put.server)
+              (λ k m d. other_word (22 * cap + k) (omega arith) (λ z. d (omega arith)) (λ z. omega arith) (λ z. omega arith) (λ z. omega arith)
+              (λ z. omega arith));
+          restated = wrote restated_cell (hist log n) x hf.restated len cs.restated (cell_word (23 * cap + n) (omega arith) put.restated)
+              (λ k m d. other_word (23 * cap + k) (omega arith) (λ z. omega arith) (λ z. d (omega arith)) (λ z. omega arith) (λ z. omega arith)
+              (λ z. omega arith));
+          refused = wrote refused_cell (hist log n) x hf.refused len cs.refused (cell_word (24 * cap + n) (omega arith) put.refused)
+              (λ k m d. other_word (24 * cap + k) (omega arith) (λ z. omega arith) (λ z. omega arith) (λ z. d (omega arith)) (λ z. omega arith)
+              (λ z. omega arith));
+          pendings = wrote pending_cell (hist log n) x hf.pendings len cs.pending (cell_word (25 * cap + n) (omega arith) put.pending)
+              (λ k m d. other_word (25 * cap + k) (omega arith) (λ z. omega arith) (λ z. omega arith) (λ z. omega arith) (λ z. d (omega arith))
+              (λ z. omega arith));
+          registered = wrote registered_cell (hist log n) x hf.registered len cs.registered (cell_word (26 * cap + n) (omega arith) put.registered)
+              (λ k m d. other_word (26 * cap + k) (omega arith) (λ z. omega arith) (λ z. omega arith) (λ z. omega arith) (λ z. omega arith)
+              (λ z. d (omega arith)));
+          splits = chained_agrees
+              (record { word = λ k m. recording_leaves _ (λ p q. omega arith) })
+              (record { word = λ k m. recording_leaves _ (λ p q. omega arith) })
+              (chained_in cap n (28 * cap) (29 * cap) w1 w2 l (omega arith) len r.split cs.split within.0 splits
+              (chained_agrees (record { word = λ k m. put_leaves _ (omega arith) }) (record { word = λ k m. put_leaves _ (omega arith) }) hf.splits));
+          recordings = chained_in cap n (30 * cap) (31 * cap) w2 w3 l (omega arith) len r.recording cs.recording within.1 recordings
+              (chained_agrees
+              (record { word = λ k m. split_leaves _ (λ p q. omega arith) ∙ put_leaves _ (omega arith) })
+              (record { word = λ k m. split_leaves _ (λ p q. omega arith) ∙ put_leaves _ (omega arith) })
+              hf.recordings);
+        };
+  }

@@ -1,29 +1,38 @@
 -- Laws of what a record leaves in the columns: each cell with the record, and the columns one record on.
-use Rattle.std.specs.Prelude.{Some, None}
+use Rattle.std.specs.Prelude.{Option, Some, None, IfSome}
+use Rattle.std.proofs.lemmas.Map.Entries.{option_filter}
 use mathlib.Core.Path.{◌≡◌, refl, sym, ap, ◌∙◌}
 use mathlib.Core.Bool.{not-not, Bool, true, false, cond, not, ◌&&◌, ◌||◌}
 use mathlib.Core.List.{List, ◌∷◌}
+use mathlib.Core.Logic.{◌⊎◌, inl, inr}
 use Prim.Native.Nat.{ℕ, zero, suc, ◌+◌, ◌-◌, ◌*◌, ◌/◌, ◌%◌, ◌≤◌, ◌<◌}
 use native.Mathlib.Omega.{arith}
 use native.Mathlib.Numerals.{add-one}
 use lib.ListN.{length, get_or}
 use lib.Dec.{eqb, eqb-suc-zero}
-use borrow.Author.Tests.{eq-eqb, ne_eqb}
+use borrow.Author.Tests.{ne_eqb}
 use Rattle.record.specs.declared.named.NodeId.{NodeId}
-use Rattle.record.specs.Records.{TraceRecord}
-use Rattle.rules.specs.History.{History, is_kind, is_by, holds}
+use Rattle.record.specs.Records.{TraceRecord, decode}
+use Rattle.record.proofs.Booleans.{never}
+use Rattle.rules.specs.Answers.{found_at}
+use Rattle.rules.specs.History.{History, is_kind, is_by, is_some, when, holds, given}
 use Rattle.rules.specs.RightHalf.{pending_by, uses_up, pending}
+use Rattle.history.specs.declared.past.Past.{Past}
+use Rattle.history.specs.declared.walk.Taken.{Taken}
 use Rattle.history.specs.Logs.{record_at, hist}
+use Rattle.history.specs.Pasts.{IsFound, number_of}
 use Rattle.history.specs.Columns.{Column, cell_of}
-use Rattle.history.proofs.Logs.{hist_none, hist_length, hist_suc}
+use Rattle.history.proofs.Logs.{hist_none, hist_length, hist_suc, record_bytes}
 use Rattle.history.proofs.Cells.{cell_at}
 use Rattle.history.proofs.Chains.{clamped}
 use Rattle.one_owner_per_key.specs.Columns.{word_by}
 use Rattle.one_owner_per_key.proofs.Latest.{number_none, number_bound, number_step}
 use Rattle.splits.specs.Numbers.{restated_number, refuses, refused_number, pending_number, is_registering, latest_registering, named_number}
-use Rattle.splits.specs.Columns.{records_by, server_cell, restated_cell, refused_cell, pending_cell, registered_cell, registering_in}
+use Rattle.splits.specs.Columns.{split_bucket, by_split, recorded_bucket, records_by, by_recording, server_cell, restated_cell, refused_cell, pending_cell, registered_cell, registering_in}
+use Rattle.splits.specs.Splits.{parent_by, split_as}
 use Rattle.splits.proofs.States.{server_cell_lem, restated_step, pending_step, restated_cell_lem, refused_cell_lem, restated_mark, pending_as, pending_is}
 use Rattle.rules.proofs.Servers.{server_number, server_step}
+use Rattle.splits.proofs.Splits.{registers_as_lem}
 use Rattle.splits.proofs.Registered.{registering_is}
 
 -- ---- a node's state with its record
@@ -40,53 +49,67 @@ module _ (node : ℕ) (x : TraceRecord) (h : History) (b : is_by node x ≡ true
       e ∙ rw (f, add-one, ← l) (sym (refused_cell_lem.own node x h b ∙ number_step (λ y _. refuses node y) x h
       ∙ ap (λ (t : Bool). cond (t && is_kind 10 x) (suc (length h)) (refused_number node h)) b))
 
--- the pending RangeSplit, by what the code finds: k the kind, m the pending one before, u whether the record uses it up
+-- the pending RangeSplit, by the kind and by what the code finds
 module _ (log : List ℕ) (n node : ℕ) (x : TraceRecord) (b : is_by node x ≡ true) {k : ℕ} (ek : k ≡ x.kind) where
   after : pending_number node (x ∷ hist log n)
-      ≡ cond (is_kind 7 x) (suc n) (cond (is_kind 6 x || is_kind 10 x || holds (uses_up x) (pending node (hist log n))) 0 (pending_number node (hist log n)))
-  after = pending_step node x (hist log n) ∙ rw (b, hist_length)
+      ≡ cond (eqb k 7) (suc n) (cond (eqb k 6 || eqb k 10 || holds (uses_up x) (pending node (hist log n))) 0 (pending_number node (hist log n)))
+  after = pending_step node x (hist log n) ∙ rw (b, hist_length, ek)
 
   pub pending_new : k ≡ 7 → n + 1 ≡ pending_number node (x ∷ hist log n)
-  pending_new e = sym (after ∙ rw (eq-eqb x.kind 7 (sym ek ∙ e)) (sym (add-one n)))
+  pending_new e = sym (after ∙ rw e (sym (add-one n)))
 
-  module _ (no : k ≡ 7 → ⊥) where
-    after_else : pending_number node (x ∷ hist log n)
-        ≡ cond (is_kind 6 x || is_kind 10 x || holds (uses_up x) (pending node (hist log n))) 0 (pending_number node (hist log n))
-    after_else = after ∙ rw (ne_eqb x.kind 7 (λ z. no (ek ∙ z)))
+  pub pending_ended : (k ≡ 6) ⊎ (k ≡ 10) → 0 ≡ pending_number node (x ∷ hist log n)
+  pending_ended (inl e) = sym (after ∙ rw e)
+  pending_ended (inr e) = sym (after ∙ rw e)
 
-    pub pending_ended : eqb k 6 || eqb k 10 ≡ true → 0 ≡ pending_number node (x ∷ hist log n)
-    pending_ended e = let q : is_kind 6 x || is_kind 10 x ≡ true = rw ek at e in sym (after_else ∙ rw q)
+  pub pending_left : {v m : ℕ} → (k ≡ 7 → ⊥) → (k ≡ 6 → ⊥) → (k ≡ 10 → ⊥) → m ≡ pending_number node (hist log n)
+      → v ≡ cond (holds (uses_up x) (pending_as log m)) 0 m → v ≡ pending_number node (x ∷ hist log n)
+  pending_left no_7 no_6 no_10 em e =
+      e ∙ sym (after ∙ rw (ne_eqb k 7 no_7, ne_eqb k 6 no_6, ne_eqb k 10 no_10, pending_is node log n, ← em))
 
-    module _ (goes : eqb k 6 || eqb k 10 ≡ false) {m : ℕ} (em : m ≡ pending_number node (hist log n)) where
-      after_goes : pending_number node (x ∷ hist log n) ≡ cond (holds (uses_up x) (pending_as log m)) 0 m
-      after_goes =
-          let q : is_kind 6 x || is_kind 10 x ≡ false = rw ek at goes in
-          after_else ∙ rw (q, pending_is node log n, ← em)
+-- what is found and not used up
+abbrev pub is_left : TraceRecord → Taken → Bool
+is_left x y = not (uses_up x (pending_by (decode y.record.now)))
 
-      pub pending_nothing : m ≡ 0 → 0 ≡ pending_number node (x ∷ hist log n)
-      pending_nothing z = sym (after_goes ∙ rw z)
-
-      pub pending_used : {u : Bool} → (m ≡ 0 → ⊥) → u ≡ uses_up x (pending_by (record_at log (m - 1))) → u ≡ true → 0 ≡ pending_number node (x ∷ hist log n)
-      pending_used z f t = sym (after_goes ∙ rw (ne_eqb m 0 z, ← f, t))
-
-      pub pending_kept : {u : Bool} → (m ≡ 0 → ⊥) → u ≡ uses_up x (pending_by (record_at log (m - 1))) → u ≡ false → m ≡ pending_number node (x ∷ hist log n)
-      pending_kept z f t = sym (after_goes ∙ rw (ne_eqb m 0 z, ← f, t))
+pub left_is : (p : Past) (x : TraceRecord) (o : Option Taken) → IsFound p o
+    → number_of (option_filter (is_left x) o) ≡ cond (holds (uses_up x) (pending_as p.log.now (number_of o))) 0 (number_of o)
+left_is p x None f = refl
+left_is p x (Some y) f =
+    rw (record_bytes p.log.now (y.number - 1) f.bytes, ne_eqb y.number 0 (λ z. omega (arith, f.some)))
+    (go (uses_up x (pending_by (record_at p.log.now (y.number - 1)))))
+  where
+    go : (u : Bool) → number_of (cond (not u) (Some y) None) ≡ cond u 0 y.number
+    go true = refl
+    go false = refl
 
 -- ---- registering
 
-registered_cases : (t : Bool) (k n : ℕ) → cond t k n ≡ cond (not t) n k
-registered_cases true k n = refl
-registered_cases false k n = refl
+-- a record is named where its number is not 0
+pub some_found : (k : ℕ) → is_some (found_at k) ≡ not (eqb k 0)
+some_found zero = refl
+some_found (suc k) = rw eqb-suc-zero
 
-pub registered_after : (log : List ℕ) (x : TraceRecord) (n : ℕ) {v m k : ℕ} → v ≡ 8192 * m + cond (eqb m 0) k (n + 1) → m ≡ named_number x (hist log n)
-    → k ≡ latest_registering (hist log n) → v ≡ registered_cell x (hist log n)
-unfolding registered_cell
-registered_after log x n {v} {m} {k} e f g =
-    e
-    ∙ ap (λ (j : ℕ). 8192 * m + j)
-    (registered_cases (eqb m 0) k (n + 1)
-    ∙ rw (f, g, add-one, ← registering_is log x n, number_step is_registering x (hist log n), hist_length))
-    ∙ ap (λ (j : ℕ). 8192 * j + latest_registering (x ∷ hist log n)) f
+split_cases : (cap : ℕ) (log : List ℕ) (x : TraceRecord) (k : ℕ) → when (is_some (found_at k)) (split_bucket cap (parent_by x) x.b)
+    ≡ given (λ s. Some (split_bucket cap s.parent s.index)) (split_as log x k)
+split_cases cap log x zero = refl
+split_cases cap log x (suc k) = rw eqb-suc-zero
+
+module _ (log : List ℕ) (x : TraceRecord) (n : ℕ) {o : Option ℕ} (e : o ≡ found_at (named_number x (hist log n))) where
+  named_some : is_some o ≡ is_registering x (hist log n)
+  named_some = ap is_some e ∙ some_found _ ∙ sym (registering_is log x n)
+
+  pub registered_after : {v k : ℕ} → ((m : ℕ) → o ≡ found_at m → v ≡ 8192 * m + cond (is_some o) (n + 1) k) → k ≡ latest_registering (hist log n)
+      → v ≡ registered_cell x (hist log n)
+  unfolding registered_cell
+  registered_after {v} {k} f g =
+      f _ e ∙ ap (λ (j : ℕ). 8192 * named_number x (hist log n) + j) (rw (named_some, g, add-one, number_step is_registering x (hist log n), hist_length))
+
+  -- its bucket is that of its parent and index
+  pub in_splits : (cap : ℕ) {r : Option ℕ} → r ≡ when (is_some o) (split_bucket cap (parent_by x) x.b) → r ≡ by_split cap x (hist log n)
+  unfolding by_split
+  in_splits cap f =
+      f ∙ ap (λ (o : Option ℕ). when (is_some o) (split_bucket cap (parent_by x) x.b)) e ∙ split_cases cap log x (named_number x (hist log n))
+      ∙ ap (given (λ s. Some (split_bucket cap s.parent s.index))) (sym (registers_as_lem log x n))
 
 module _ (log : List ℕ) {count cap : ℕ} {work : List ℕ} (col : Column (cell_of registered_cell (hist log count)) (26 * cap) cap work) (taken : count ≤ cap)
     (few : cap ≤ 4096) where
@@ -115,10 +138,28 @@ module _ (log : List ℕ) {count cap : ℕ} {work : List ℕ} (col : Column (cel
 
 -- ---- recording
 
-pub records_after : (x : TraceRecord) (h : History) (node : NodeId) {r : Bool} {s : ℕ} → x.node ≡ Some node → r ≡ is_kind 2 x && eqb s 0
-    → s ≡ restated_number node.0 h → r ≡ records_by x h x.node
-records_after x h node {r} {s} m e f =
-    e ∙ rw (m, restated_mark node.0 h, ← f, not-not (eqb s 0))
+-- nothing is found where the number is 0
+pub none_found : (p : Past) (o : Option Taken) {t : Bool} → IsFound p o → is_some o ≡ not t → t ≡ eqb (number_of o) 0
+none_found p o {t} f e = sym (not-not t) ∙ ap not (sym e) ∙ go o f
+  where
+    go : (o : Option Taken) → IsFound p o → not (is_some o) ≡ eqb (number_of o) 0
+    go None f = refl
+    go (Some y) f = sym (ne_eqb y.number 0 (λ z. omega (arith, f.some)))
+
+-- what a closure gives, called where a test holds
+pub gives_when : (v : ℕ) (b : Bool) (r : Option ℕ) → is_some r ≡ b → IfSome r (λ k. k ≡ v) → r ≡ when b v
+gives_when v true None e s = never refl (sym e)
+gives_when v true (Some k) e s = ap Some s
+gives_when v false None e s = refl
+gives_when v false (Some k) e s = never refl e
+
+in_recordings : (cap : ℕ) (x : TraceRecord) (h : History) {t : Bool} → t ≡ records_by x h x.node → when t (recorded_bucket cap x.a) ≡ by_recording cap x h
+unfolding by_recording
+in_recordings cap x h e = rw e
+
+pub recording_after : (cap : ℕ) (x : TraceRecord) (h : History) (node : NodeId) {r : Option ℕ} {s : ℕ} → x.node ≡ Some node
+    → r ≡ when (is_kind 2 x && eqb s 0) (recorded_bucket cap x.a) → s ≡ restated_number node.0 h → r ≡ by_recording cap x h
+recording_after cap x h node {s = s} m e f = e ∙ in_recordings cap x h (rw (m, restated_mark node.0 h, ← f, not-not (eqb s 0)))
 
 -- ---- a record without a node
 
@@ -147,5 +188,5 @@ module _ (x : TraceRecord) (h : History) (e : x.node ≡ None) where
   unfolding pending_cell
   pending_unmarked = sym (ap (word_by _) e)
 
-  pub records_unmarked : false ≡ records_by x h x.node
-  records_unmarked = sym (ap (records_by x h) e)
+  pub recording_unmarked : (cap : ℕ) → None ≡ by_recording cap x h
+  recording_unmarked cap = in_recordings cap x h (sym (ap (records_by x h) e))

@@ -15,7 +15,8 @@ ghost use Rattle.splits.specs.Columns.{Known, HalfNoted, Celled, CellsPut, Enter
 ghost use Rattle.splits.specs.Splits.{parent_by};
 
 use crate::cells::{
-    pending_by, recorded_bucket, refused_by, registering_by, restatement_by, server_by, split_bucket,
+    pending_by, recorded_bucket, refused_by, registering_by, restatement_by, server_by,
+    split_bucket,
 };
 use crate::split::{parent_of, registers, uses_up};
 use history::chain::{enter, put};
@@ -104,7 +105,8 @@ fn split_with(past: &Past, rec: &Record, named: Option<usize>) -> Option<usize>
     ensures within { IfSome result (λ b. b < past.now.cap) }
     ensures is { result ≡ when (is_some named) (split_bucket past.now.cap (parent_by (decode rec.now)) (decode rec.now).b) }
 {
-    named.map(|_| split_bucket(past.cap, parent_of(rec), field::b(rec)))
+    let cap = past.cap;
+    named.map(|_| split_bucket(cap, parent_of(rec), field::b(rec)))
 }
 
 // The bucket of a record that records an index: a RangeDescriptor of a node that is not restated.
@@ -114,7 +116,8 @@ fn recording_with(past: &Past, rec: &Record, last: usize) -> Option<usize>
     ensures is { result ≡ when (is_kind 2 (decode rec.now) && eqb (number_in (restated_at * past.now.cap) past.now.work.now last) 0) (recorded_bucket past.now.cap (decode rec.now).a) }
 {
     let records = (field::kind(rec) == 2) & restatement_by(past, last).is_none();
-    records.then(|| recorded_bucket(past.cap, field::a(rec)))
+    let cap = past.cap;
+    records.then(|| recorded_bucket(cap, field::a(rec)))
 }
 
 // The cells of a record.
@@ -182,6 +185,18 @@ pub fn note(log: &[u8], work: &mut [u64], count: usize, cap: usize, rec: &Record
     };
     let cells = cells_of(&past, rec);
     put_cells(work, cap, count, &cells);
-    enter_in(work, SPLIT_HEADS * cap, SPLIT_LINKS * cap, count, cells.split);
-    enter_in(work, RECORDED_HEADS * cap, RECORDED_LINKS * cap, count, cells.recording);
+    enter_in(
+        work,
+        SPLIT_HEADS * cap,
+        SPLIT_LINKS * cap,
+        count,
+        cells.split,
+    );
+    enter_in(
+        work,
+        RECORDED_HEADS * cap,
+        RECORDED_LINKS * cap,
+        count,
+        cells.recording,
+    );
 }
