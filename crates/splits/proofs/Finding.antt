@@ -1,15 +1,15 @@
 -- Laws of the splits that are found: what is read of the record that registered one, where one is found by its parent and index,
 -- and the walk over all of them.
 use mathlib.Core.Path.{◌≡◌, refl, sym, ap, subst, ◌∙◌}
-use mathlib.Core.Bool.{Bool, true, false, cond, not, ◌&&◌}
+use mathlib.Core.Bool.{Bool, true, false, cond, ◌&&◌}
 use mathlib.Core.List.{List}
 use mathlib.Core.Logic.{inl, inr}
 use Prim.Native.Nat.{ℕ, zero, suc, ◌+◌, ◌-◌, ◌*◌, ◌%◌, ◌≤◌, ◌<◌}
 use lib.ListN.{get_or}
 use native.Mathlib.Omega.{arith}
 use native.Mathlib.Decide.{ℕ_discrete, dec_lt}
-use lib.Dec.{eqb, leb, ltb}
-use borrow.Author.Tests.{leb-true, le-leb, ne_eqb, lt-ltb, le-ltb}
+use lib.Dec.{eqb, leb}
+use borrow.Author.Tests.{leb-true, le-leb, lt-ltb, le-ltb}
 use denote.Param.Members.{Mut}
 use denote.Ref.{Bor}
 use Rattle.std.specs.Prelude.{Option, None, Some, IfSome}
@@ -26,13 +26,13 @@ use Rattle.history.specs.declared.past.Past.{Past}
 use Rattle.history.specs.declared.walk.Chain.{Chain}
 use Rattle.history.specs.declared.walk.Taken.{Taken}
 use Rattle.history.specs.Columns.{clamp}
-use Rattle.history.specs.Logs.{bytes_at, record_at, hist}
+use Rattle.history.specs.Logs.{record_at, hist}
 use Rattle.history.specs.Pasts.{taken, Indexed, IsTaken, IsFound, Begins, Steps, number_of}
 use Rattle.history.specs.Places.{split_heads, split_links}
 use Rattle.history.proofs.Finds.{Tests}
 use Rattle.history.proofs.Logs.{record_bytes}
 use Rattle.one_owner_per_key.proofs.Founds.{up_to_by, find_latest}
-use Rattle.one_owner_per_key.proofs.Latest.{passes_at, number_bound, number_is, number_over}
+use Rattle.one_owner_per_key.proofs.Latest.{passes_at, number_is, number_over}
 use Rattle.one_owner_per_key.proofs.Walks.{two_below}
 use Rattle.splits.specs.declared.split.Split.{Split}
 use Rattle.splits.specs.declared.walk.Splits.{Splits}
@@ -160,7 +160,7 @@ pub record OnSplits (p : Past) (s : Splits) : Type 0 where
   pub here : Indexed Known p → 0 < s.next → is_registering (record_at p.log.now (s.next - 1)) (hist p.log.now (s.next - 1)) ≡ true
 
 clamp_below : (x n : ℕ) → clamp x n ≤ n
-clamp_below x n = elim (dec_lt n x) [ | yes l ↦ rw (lt-ltb n x l) (omega arith) | no l ↦ rw (le-ltb n x (omega arith)) (omega arith) ]
+clamp_below x n = elim (dec_lt n x) [ yes l ↦ rw (lt-ltb n x l) (omega arith) | no l ↦ rw (le-ltb n x (omega arith)) (omega arith) ]
 
 registering_below : (work : List ℕ) (cap n : ℕ) → registering_in work cap n ≤ n
 registering_below work cap n =

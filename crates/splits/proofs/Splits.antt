@@ -4,12 +4,12 @@ use mathlib.Core.Bool.{Bool, true, false, cond, not, ◌&&◌, ◌||◌}
 use mathlib.Core.List.{List, [], ◌∷◌}
 use mathlib.Core.Logic.{inl, inr}
 use Rattle.std.specs.Prelude.{Option, None, Some}
-use Prim.Native.Nat.{ℕ, suc, ◌+◌, ◌-◌, ◌≤◌, ◌<◌}
+use Prim.Native.Nat.{ℕ, suc, ◌+◌, ◌-◌}
 use native.Mathlib.Omega.{arith}
 use native.Mathlib.Numerals.{add-one}
 use lib.ListN.{length}
-use lib.Dec.{eqb, ltb, eqb-suc-zero}
-use borrow.Author.Tests.{eqb-true, eqb-false, eq-eqb, ne_eqb, ltb-false, le-ltb}
+use lib.Dec.{eqb, eqb-suc-zero}
+use borrow.Author.Tests.{eqb-true, eq-eqb, ne_eqb}
 use Rattle.record.specs.Named.{Node, cause_of, cause_number}
 use Rattle.record.specs.declared.named.NodeId.{NodeId}
 use Rattle.record.specs.declared.named.RangeCause.TheVariants.{Split}

@@ -102,7 +102,11 @@ pub fn split_bucket(cap: usize, parent: u64, index: u64) -> usize
 pub fn split_chain<'a>(past: &Past<'a>, parent: u64, index: u64) -> Chain<'a>
     ensures { Begins past.now split_heads split_links (split_bucket past.now.cap parent index) result }
 {
-    past.chain(SPLIT_HEADS, SPLIT_LINKS, split_bucket(past.cap, parent, index))
+    past.chain(
+        SPLIT_HEADS,
+        SPLIT_LINKS,
+        split_bucket(past.cap, parent, index),
+    )
 }
 
 // The bucket of a range's recorded indexes.
@@ -117,5 +121,9 @@ pub fn recorded_bucket(cap: usize, range: u64) -> usize
 pub fn recorded_chain<'a>(past: &Past<'a>, range: u64) -> Chain<'a>
     ensures { Begins past.now recorded_heads recorded_links (recorded_bucket past.now.cap range) result }
 {
-    past.chain(RECORDED_HEADS, RECORDED_LINKS, recorded_bucket(past.cap, range))
+    past.chain(
+        RECORDED_HEADS,
+        RECORDED_LINKS,
+        recorded_bucket(past.cap, range),
+    )
 }

@@ -110,8 +110,8 @@ pub fn split_of<'a>(past: &Past<'a>, top: usize, parent: u64, index: u64) -> Opt
     ensures within { number_by result ≤ top }
     ensures latest { Indexed Known past.now → number_by result ≡ split_number parent index (hist past.now.log.now top) }
 {
-    let found = split_chain(past, parent, index)
-        .find(|old| (old.number <= top) & is_split(old.record, parent, index))?;
+    let found = split_chain(past, parent, index).find(|old| (old.number <= top)
+        & is_split(old.record, parent, index))?;
     split_at(past, &found)
 }
 

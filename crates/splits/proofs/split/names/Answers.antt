@@ -1,5 +1,4 @@
 -- Kind 1 names its own; kind 2 uses up the pending RangeSplit of its node.
-use mathlib.Core.Path.{◌∙◌}
 use native.Mathlib.Omega.{arith}
 use borrow.Author.Tests.{tests}
 use Rattle.std.proofs.Common.{rules}
