@@ -3,23 +3,30 @@
 use mathlib.Core.Path.{◌≡◌, refl, sym, ap, ◌∙◌}
 use mathlib.Core.Bool.{Bool, true, false, not, ◌&&◌, ◌||◌}
 use mathlib.Core.List.{List}
-use mathlib.Core.Logic.{◌⊎◌, inl, inr}
-use Prim.Native.Nat.{ℕ, zero, suc, ◌+◌, ◌-◌, ◌≤◌, ◌<◌, max}
+use mathlib.Core.Logic.{inl, inr}
+use Rattle.std.specs.Prelude.{Option, None, Some, MatchOption}
+use Prim.Native.Nat.{ℕ, zero, suc, ◌-◌, ◌≤◌, ◌<◌, max}
 use native.Mathlib.Omega.{arith}
 use lib.Dec.{eqb, leb, ltb}
-use borrow.Author.Tests.{ltb-true, ltb-false, lt-ltb, le-ltb, le-leb, lt-leb}
-use Rattle.record.specs.Records.{TraceRecord}
-use Rattle.rules.specs.History.{History, is_kind, is_by, any_of}
+use borrow.Author.Tests.{ltb-true, ltb-false, le-ltb, le-leb, lt-leb, ne_eqb}
+use Rattle.record.specs.Records.{TraceRecord, decode}
+use Rattle.rules.specs.History.{History, is_kind, is_by, is_some, any_of}
 use Rattle.rules.specs.RightHalf.{server_of, is_restated, cancels}
 use Rattle.history.specs.Logs.{record_at, hist}
-use Rattle.history.proofs.Logs.{hist_none}
+use Rattle.history.specs.Pasts.{taken, IsFound, number_of}
+use Rattle.history.specs.declared.past.Past.{Past}
+use Rattle.history.specs.declared.walk.Taken.{Taken}
+use Rattle.history.proofs.Logs.{hist_none, record_bytes}
 use Rattle.one_owner_per_key.specs.Numbers.{latest_number}
 use Rattle.record.proofs.Booleans.{decide}
 use Rattle.one_owner_per_key.proofs.Latest.{passes_at, number_none, number_bound, at_hit, at_miss}
+use Rattle.one_owner_per_key.proofs.Checks.{some_number}
 use Rattle.debts.specs.declared.owed.Asked.TheVariants.{Removed, Traced, Recording}
 use Rattle.splits.specs.Numbers.{refuses, refused_number}
 use Rattle.debts.specs.Walk.{cancel_number, asks, comes, above, reached, traced, applied_first, owes_first, owes_split}
+use Rattle.splits.specs.declared.split.Split.{Split}
 use Rattle.splits.specs.Splits.{parent_by}
+use Rattle.splits.specs.Walk.{IsSplit}
 
 -- ---- of two tests
 
@@ -55,126 +62,112 @@ cancels_either : (node right : ℕ) (x : TraceRecord) (h : History) → cancels 
 unfolding asks
 cancels_either node right x h = cancel_cases (is_by node x) (is_kind 9 x) (eqb x.a right) (is_kind 10 x)
 
--- where a number is above a floor, and where it is not
-pub above_zero : (floor n : ℕ) {k : ℕ} → k ≡ above floor n → k ≡ 0 → n ≤ floor
-above_zero floor n {k} e z =
+-- ---- what is found above a floor
+
+above_test : (floor n : ℕ) → not (eqb (above floor n) 0) ≡ ltb floor n
+above_test floor n =
     elim (decide (ltb floor n)) [
-      | inl t ↦ let q : k ≡ n = e ∙ rw t in omega (arith, ltb-true floor n t)
-      | inr t ↦ ltb-false floor n t
+      | inl t ↦ let z : n ≡ 0 → ⊥ = λ q. omega (arith, q, ltb-true floor n t) in rw (t, ne_eqb n 0 z)
+      | inr t ↦ rw t
     ]
 
-pub record Over (k floor n : ℕ) : Type 0 where
-  pub over : floor < n
-  pub is : k ≡ n
+-- it is found where the latest is above the floor
+pub found_above : (p : Past) (o : Option Taken) → IsFound p o → (floor n : ℕ) → number_of o ≡ above floor n → is_some o ≡ ltb floor n
+found_above p o t floor n e = some_number p o t ∙ ap (λ (k : ℕ). not (eqb k 0)) e ∙ above_test floor n
 
-pub above_some : (floor n : ℕ) {k : ℕ} → k ≡ above floor n → (k ≡ 0 → ⊥) → Over k floor n
-above_some floor n {k} e z =
-    elim (decide (ltb floor n)) [
-      | inl t ↦ record { over = ltb-true floor n t; is = e ∙ rw t }
-      | inr t ↦ absurd (z (e ∙ rw t))
-    ]
+module _ (p : Past) (top node : ℕ) {refused : ℕ} (f : refused ≡ refused_number node (hist p.log.now top)) where
+  module _ (right : ℕ) where
+    abbrev removed : ℕ
+    removed = latest_number (asks Removed node right) (hist p.log.now top)
 
-module _ (log : List ℕ) (n node right : ℕ) {k r : ℕ} (e : k ≡ above r (latest_number (asks Removed node right) (hist log n)))
-    (f : r ≡ refused_number node (hist log n)) where
-  cancel_is : cancel_number node right (hist log n) ≡ max (latest_number (asks Removed node right) (hist log n)) (refused_number node (hist log n))
-  cancel_is = number_either (λ x _. cancels node right x) (asks Removed node right) (λ x _. refuses node x) (cancels_either node right) log n
+    cancel_is : cancel_number node right (hist p.log.now top) ≡ max removed (refused_number node (hist p.log.now top))
+    cancel_is =
+        number_either (λ x _. cancels node right x) (asks Removed node right) (λ x _. refuses node x) (cancels_either node right) p.log.now top
 
-  pub cancel_refused : k ≡ 0 → r ≡ cancel_number node right (hist log n)
-  cancel_refused z = omega (arith, cancel_is, above_zero r (latest_number (asks Removed node right) (hist log n)) e z)
+    pub cancel_found : (o : Option Taken) → IsFound p o → number_of o ≡ above refused removed → {k : ℕ} {Gives : Taken → Type 0}
+        → ((y : Taken) → Gives y → k ≡ y.number) → MatchOption o (k ≡ refused) Gives → k ≡ cancel_number node right (hist p.log.now top)
+    cancel_found None t e calls m = omega (arith, m, cancel_is, f, ltb-false refused removed (sym (found_above p None t refused removed e)))
+    cancel_found (Some y) t e calls m =
+        let q : ltb refused removed ≡ true = sym (found_above p (Some y) t refused removed e) in
+        let i : y.number ≡ removed = rw q at e in
+        omega (arith, calls y m, cancel_is, f, ltb-true refused removed q, i)
 
-  pub cancel_removed : (k ≡ 0 → ⊥) → k ≡ cancel_number node right (hist log n)
-  cancel_removed z = let w = above_some r (latest_number (asks Removed node right) (hist log n)) e z in omega (arith, cancel_is, w.over, w.is)
+  -- ---- at the registering record
 
--- ---- at the registering record
+  module _ (parent index : ℕ) where
+    abbrev recording : ℕ
+    recording = latest_number (asks Recording node parent) (hist p.log.now top)
 
-module _ (log : List ℕ) (n node parent index : ℕ) {k r : ℕ} (f : r ≡ refused_number node (hist log n)) where
-  module _ (e : k ≡ above r (latest_number (asks Recording node parent) (hist log n))) where
-    pub reached_none : k ≡ 0 → false ≡ reached log n node parent index
+    pub reached_found : (o : Option Taken) → IsFound p o → number_of o ≡ above refused recording → {b : Bool} {Gives : Taken → Type 0}
+        → ((y : Taken) → Gives y → b ≡ leb index (decode y.record.now).c) → MatchOption o (b ≡ false) Gives
+        → b ≡ reached p.log.now top node parent index
     unfolding reached
-    reached_none z =
-        let l : latest_number (asks Recording node parent) (hist log n) ≤ refused_number node (hist log n) =
-        omega (arith, above_zero r (latest_number (asks Recording node parent) (hist log n)) e z) in
-        rw (le-ltb (refused_number node (hist log n)) (latest_number (asks Recording node parent) (hist log n)) l)
+    reached_found None t e calls m = let q : ltb refused recording ≡ false = sym (found_above p None t refused recording e) in m ∙ rw (← f, q)
+    reached_found (Some y) t e calls m =
+        let q : ltb refused recording ≡ true = sym (found_above p (Some y) t refused recording e) in
+        let i : y.number ≡ recording = rw q at e in
+        calls y m ∙ ap (λ (x : TraceRecord). leb index x.c) (record_bytes p.log.now (y.number - 1) t.bytes) ∙ rw (← f, q, ← i)
 
-    pub reached_some : {b : Bool} → (k ≡ 0 → ⊥) → b ≡ leb index (record_at log (k - 1)).c → b ≡ reached log n node parent index
-    unfolding reached
-    reached_some z g =
-        let w = above_some r (latest_number (asks Recording node parent) (hist log n)) e z in
-        let l : refused_number node (hist log n) < latest_number (asks Recording node parent) (hist log n) = omega (arith, w.over) in
-        g ∙ rw (lt-ltb (refused_number node (hist log n)) (latest_number (asks Recording node parent) (hist log n)) l, ← w.is)
-
-  module _ (e : k ≡ above r (latest_number (asks (Traced index) node parent) (hist log n))) where
-    pub traced_none : k ≡ 0 → traced log n node parent index ≡ false
+    pub traced_found : (o : Option Taken) → IsFound p o → number_of o ≡ above refused (latest_number (asks (Traced index) node parent) (hist p.log.now top))
+        → is_some o ≡ traced p.log.now top node parent index
     unfolding traced
-    traced_none z =
-        le-ltb (refused_number node (hist log n)) (latest_number (asks (Traced index) node parent) (hist log n))
-        (omega (arith, above_zero r (latest_number (asks (Traced index) node parent) (hist log n)) e z))
+    traced_found o t e = found_above p o t refused _ e ∙ rw f
 
-    pub traced_some : (k ≡ 0 → ⊥) → traced log n node parent index ≡ true
-    unfolding traced
-    traced_some z =
-        lt-ltb (refused_number node (hist log n)) (latest_number (asks (Traced index) node parent) (hist log n))
-        (omega (arith, (above_some r (latest_number (asks (Traced index) node parent) (hist log n)) e z).over))
+module _ (log : List ℕ) (t node : ℕ) (y : TraceRecord) {parent index : ℕ} (ep : parent ≡ parent_by y) (ei : index ≡ y.b) {b : Bool}
+    (e : b ≡ reached log t node parent index || traced log t node parent index) where
+  by_either : reached log t node (parent_by y) y.b || traced log t node (parent_by y) y.b ≡ b
+  by_either = sym (e ∙ rw (ep, ei))
 
-module _ (log : List ℕ) (t node : ℕ) (y : TraceRecord) {p i : ℕ} {b : Bool} (ep : p ≡ parent_by y) (ei : i ≡ y.b) (er : b ≡ reached log t node p i) where
-  by_reached : reached log t node (parent_by y) y.b ≡ b
-  by_reached = sym (er ∙ rw (ep, ei))
-
-  pub first_reached : b ≡ true → true ≡ applied_first log t node y
+  pub first_early : b ≡ true → b ≡ applied_first log t node y
   unfolding applied_first
-  first_reached z = rw (by_reached, z)
+  first_early z = rw (by_either, z)
 
-  module _ (no : b ≡ false) {k r : ℕ} (f : r ≡ refused_number node (hist log t)) (e : k ≡ above r (latest_number (asks (Traced i) node p) (hist log t))) where
-    pub first_traced : (k ≡ 0 → ⊥) → true ≡ applied_first log t node y
-    unfolding applied_first
-    first_traced z =
-        let q : traced log t node (parent_by y) y.b ≡ true = rw (← ep, ← ei) (traced_some log t node p i f e z) in
-        rw (by_reached, no, q)
-
-    pub first_itself : (m : ℕ) {v : Bool} → k ≡ 0 → eqb m 0 ≡ not (is_restated node (hist log t))
-        → v ≡ is_by node y && is_kind 2 y && eqb m 0 && leb y.b y.c → v ≡ applied_first log t node y
-    unfolding applied_first
-    first_itself m z g h =
-        let q : traced log t node (parent_by y) y.b ≡ false = rw (← ep, ← ei) (traced_none log t node p i f e z) in
-        h ∙ rw (g, by_reached, no, q)
+  pub first_itself : b ≡ false → {m v : Bool} → m ≡ is_restated node (hist log t) → v ≡ is_by node y && is_kind 2 y && not m && leb y.b y.c
+      → v ≡ applied_first log t node y
+  unfolding applied_first
+  first_itself z em g = g ∙ rw (em, by_either, z)
 
 -- ---- by one split
 
-pub owes_first_voter : (log : List ℕ) (t node : ℕ) (y : TraceRecord) {b v : Bool} {s : ℕ} → b ≡ applied_first log t node y → b ≡ true
-    → s ≡ (server_of node (hist log t)).0 → v ≡ any_of (λ u. eqb u s) y.voters → v ≡ owes_first log t node y
-unfolding owes_first
-owes_first_voter log t node y e z f g = g ∙ rw (f, ← e, z)
+module _ (log : List ℕ) (t node : ℕ) (y : TraceRecord) {b : Bool} (e : b ≡ applied_first log t node y) where
+  pub owes_first_voter : b ≡ true → {v : Bool} {s : ℕ} → s ≡ (server_of node (hist log t)).0 → v ≡ any_of (λ u. eqb u s) y.voters
+      → v ≡ owes_first log t node y
+  unfolding owes_first
+  owes_first_voter z f g = g ∙ rw (f, ← e, z)
 
-pub owes_first_none : (log : List ℕ) (t node : ℕ) (y : TraceRecord) {b : Bool} → b ≡ applied_first log t node y → b ≡ false → false ≡ owes_first log t node y
-unfolding owes_first
-owes_first_none log t node y e z = rw (← e, z)
+  pub owes_first_none : b ≡ false → b ≡ owes_first log t node y
+  unfolding owes_first
+  owes_first_none z = rw (← e, z)
 
-pub floor_is : (c t f : ℕ) → ((c ≤ t) × (f ≡ t + 1)) ⊎ ((t < c) × (f ≡ c)) → f ≡ max c (suc t)
-floor_is c t f (inl w) = omega (arith, w.0, w.1)
-floor_is c t f (inr w) = omega (arith, w.0, w.1)
+pub ruleset owes_first_cases = (owes_first_voter, owes_first_none)
 
-module _ (log : List ℕ) (n node t c : ℕ) {k f : ℕ} (ef : f ≡ max c (suc t))
-    (e : k ≡ above f (latest_number (comes node (parent_by (record_at log t)) (record_at log t).b (record_at log t).voters) (hist log n))) where
-  pub owes_coming : (k ≡ 0 → ⊥) → true ≡ owes_split log n node t c
+-- o: the latest coming above the later of the cancel c and the registering
+module _ {p : Past} {s : Split} (i : IsSplit p s) (node c : ℕ) (o : Option Taken) (found : IsFound p o) {floor : ℕ} (ef : floor ≡ max c s.number)
+    (e : number_of o ≡ above floor
+    (latest_number (comes node (parent_by (decode s.record.now)) (decode s.record.now).b (decode s.record.now).voters) (taken p))) where
+  abbrev t : ℕ
+  t = s.number - 1
+
+  abbrev coming : TraceRecord → ℕ
+  coming y = latest_number (comes node (parent_by y) y.b y.voters) (taken p)
+
+  here : decode s.record.now ≡ record_at p.log.now t
+  here = record_bytes p.log.now t i.bytes
+
+  coming_is : is_some o ≡ ltb (max c (suc t)) (coming (record_at p.log.now t))
+  coming_is =
+      let q : floor ≡ max c (suc t) = omega (arith, ef, i.some) in
+      found_above p o found floor _ e ∙ ap (λ (n : ℕ). ltb n (coming (decode s.record.now))) q ∙ ap (λ (y : TraceRecord). ltb (max c (suc t)) (coming y)) here
+
+  pub owes_coming : {b : Bool} → b ≡ is_some o → b ≡ true → b ≡ owes_split p.log.now p.count node t c
   unfolding owes_split
-  owes_coming z =
-      rw (lt-ltb (max c (suc t)) (latest_number (comes node (parent_by (record_at log t)) (record_at log t).b (record_at log t).voters) (hist log n))
-      (omega (
-        arith,
-        (above_some f (latest_number (comes node (parent_by (record_at log t)) (record_at log t).b (record_at log t).voters)
-            (hist log n)) e z).over,
-      )))
+  owes_coming q z = rw (← coming_is, ← q, z)
 
-  no_coming : k ≡ 0 → ltb (max c (suc t)) (latest_number (comes node (parent_by (record_at log t)) (record_at log t).b (record_at log t).voters) (hist log n))
-      ≡ false
-  no_coming z =
-      le-ltb (max c (suc t)) (latest_number (comes node (parent_by (record_at log t)) (record_at log t).b (record_at log t).voters) (hist log n))
-      (omega (arith, above_zero f (latest_number (comes node (parent_by (record_at log t)) (record_at log t).b (record_at log t).voters) (hist log n)) e z))
-
-  pub owes_cancelled : k ≡ 0 → t < c → false ≡ owes_split log n node t c
+  pub owes_cancelled : {b : Bool} → b ≡ is_some o → b ≡ false → s.number ≤ c → ltb c s.number ≡ owes_split p.log.now p.count node t c
   unfolding owes_split
-  owes_cancelled z l = rw (no_coming z, lt-leb c t l)
+  owes_cancelled q z l = rw (le-ltb c s.number l, ← coming_is, ← q, z, lt-leb c t (omega (arith, i.some)))
 
-  pub owes_at_first : {v : Bool} → k ≡ 0 → c ≤ t → v ≡ owes_first log t node (record_at log t) → v ≡ owes_split log n node t c
+  pub owes_at_first : {b v : Bool} → b ≡ is_some o → b ≡ false → c < s.number → v ≡ owes_first p.log.now t node (decode s.record.now)
+      → v ≡ owes_split p.log.now p.count node t c
   unfolding owes_split
-  owes_at_first z l g = g ∙ rw (no_coming z, le-leb c t l)
+  owes_at_first q z l g = g ∙ ap (owes_first p.log.now t node) here ∙ rw (← coming_is, ← q, z, le-leb c t (omega arith))

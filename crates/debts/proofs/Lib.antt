@@ -4,3 +4,4 @@ pub mod Comings
 pub mod Parts
 pub mod Arising
 pub mod Owing
+pub mod Debts

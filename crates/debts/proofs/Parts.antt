@@ -1,8 +1,9 @@
 -- Laws of a node that has no part in a registered split: it owes nothing by it, neither at the registering nor after.
-use mathlib.Core.Path.{◌≡◌, refl, sym, ap}
+use mathlib.Core.Path.{◌≡◌, refl, sym, ap, ◌∙◌}
 use mathlib.Core.Bool.{Bool, true, false, not, ◌&&◌, ◌||◌, and-false}
 use mathlib.Core.List.{List}
 use mathlib.Core.Logic.{◌⊎◌, inl, inr}
+use Rattle.std.specs.Prelude.{Option}
 use Prim.Native.Nat.{ℕ, suc, ◌-◌, ◌≤◌, ◌<◌, max}
 use native.Mathlib.Omega.{arith}
 use native.Mathlib.Decide.{ℕ_discrete}
@@ -10,16 +11,20 @@ use lib.Dec.{eqb, leb, ltb}
 use borrow.Author.Tests.{eqb-true, ltb-false, le-ltb}
 use Rattle.record.specs.declared.named.ApplyEffect.TheVariants.{Took}
 use Rattle.record.specs.Records.{TraceRecord}
-use Rattle.rules.specs.History.{History, is_kind, is_by}
+use Rattle.rules.specs.History.{History, is_kind, is_by, is_some}
 use Rattle.rules.specs.GenerationsRise.{has_effect}
 use Rattle.rules.specs.RightHalf.{is_restated}
 use Rattle.record.proofs.Booleans.{never, decide, and_left, and_right, both, or_cases, or_left}
 use Rattle.history.specs.Logs.{record_at, hist}
+use Rattle.history.specs.Pasts.{IsFound, number_of}
+use Rattle.history.specs.declared.past.Past.{Past}
+use Rattle.history.specs.declared.walk.Taken.{Taken}
 use Rattle.one_owner_per_key.specs.Numbers.{latest_number}
 use Rattle.one_owner_per_key.proofs.Latest.{number_bound, number_is, number_over}
 use Rattle.debts.specs.declared.owed.Asked.TheVariants.{Traced, Recording, Applying}
 use Rattle.splits.specs.Numbers.{refused_number}
 use Rattle.splits.specs.Splits.{parent_by}
+use Rattle.one_owner_per_key.proofs.Checks.{some_number}
 use Rattle.debts.specs.Walk.{asks, applying, comes, above, reached, traced, has_part, applied_first, owes_first, owes_split}
 
 -- ---- what the code makes of the latest record that can apply a split of the parent
@@ -32,14 +37,17 @@ above_all n =
     ]
 
 module _ (log : List ℕ) (n node : ℕ) (y : TraceRecord) {b : Bool} (e : b ≡ is_by node y) where
-  pub part_own : b ≡ true → true ≡ has_part log n node y
+  pub part_own : b ≡ true → b ≡ has_part log n node y
   unfolding has_part
   part_own z = rw (← e, z)
 
-  pub part_found : {p k : ℕ} → b ≡ false → p ≡ parent_by y → k ≡ above 0 (latest_number (asks Applying node p) (hist log n))
-      → not (eqb k 0) ≡ has_part log n node y
+  pub part_found : (p : Past) (o : Option Taken) {parent : ℕ} → b ≡ false → parent ≡ parent_by y → IsFound p o
+      → number_of o ≡ above 0 (latest_number (asks Applying node parent) (hist log n)) → is_some o ≡ has_part log n node y
   unfolding has_part
-  part_found {p} {k} z f g = rw (← e, z, ← f, g, above_all)
+  part_found p o {parent} z f t g =
+      some_number p o t
+      ∙ ap (λ (k : ℕ). not (eqb k 0)) (g ∙ above_all (latest_number (asks Applying node parent) (hist log n)))
+      ∙ rw (← e, z, f)
 
 -- ---- a record that applies is one that can
 

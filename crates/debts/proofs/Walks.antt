@@ -4,29 +4,36 @@ use Rattle.history.specs.Buckets.{bucket_by_two}
 use mathlib.Core.Path.{◌≡◌, refl, sym, ap, ◌∙◌}
 use mathlib.Core.Bool.{Bool, true, false, cond, not, ◌&&◌, ◌||◌, and_assoc}
 use mathlib.Core.List.{List, ◌∷◌}
-use Prim.Native.Nat.{ℕ, suc, ◌+◌, ◌*◌, ◌≤◌, ◌<◌, min}
+use Prim.Native.Nat.{ℕ, suc, ◌+◌, ◌-◌, ◌*◌, ◌≤◌, ◌<◌, min}
 use native.Mathlib.Omega.{arith}
 use lib.ListN.{get_or}
 use lib.Dec.{eqb, leb}
 use borrow.Author.Tests.{eqb-true, lt-ltb, le-ltb}
 use Rattle.record.specs.declared.named.ApplyEffect.TheVariants.{Took}
-use Rattle.record.specs.Records.{TraceRecord}
-use Rattle.rules.specs.History.{History, Tells, is_kind, is_by, any_of}
+use Rattle.record.specs.Records.{TraceRecord, decode}
+use Rattle.rules.specs.History.{History, is_kind, is_by, any_of}
 use Rattle.rules.specs.GenerationsRise.{has_effect}
 use Rattle.rules.specs.RightHalf.{is_restated}
 use Rattle.history.specs.Logs.{record_at, hist}
-use Rattle.history.specs.Places.{server_at, restated_at}
-use Rattle.history.proofs.Logs.{hist_suc}
+use Rattle.history.specs.Pasts.{Indexed, IsTaken, Begins, Goes}
+use Rattle.history.specs.Places.{server_at, restated_at, hold_heads, hold_links}
+use Rattle.history.specs.declared.past.Past.{Past}
+use Rattle.history.specs.declared.walk.Chain.{Chain}
+use Rattle.history.specs.declared.walk.Taken.{Taken}
+use Rattle.history.proofs.Chains.{Stands}
+use Rattle.history.proofs.Pasts.{OnPast, on_first, on_next, taken_on, along_turn, along_first, along_next}
+use Rattle.history.proofs.Logs.{hist_suc, record_bytes}
 use Rattle.one_owner_per_key.specs.Numbers.{latest_number}
 use Rattle.one_owner_per_key.specs.Columns.{is_chained, by_hold}
 use Rattle.record.proofs.Booleans.{and_left, and_right, or_elim}
 use Rattle.rules.proofs.Marks.{kind_apart}
-use Rattle.one_owner_per_key.proofs.Latest.{number_bound}
-use Rattle.one_owner_per_key.proofs.Walks.{Walking, Within, hold_within, descriptor_chained, split_chained, removed_chained, took_chained}
+use Rattle.one_owner_per_key.proofs.Latest.{passes_at, number_bound}
+use Rattle.one_owner_per_key.proofs.Founds.{latest_to, to_none, to_miss, to_hit, to_top}
+use Rattle.one_owner_per_key.proofs.Walks.{Within, outside, hold_within, descriptor_chained, split_chained, removed_chained, took_chained}
 use Rattle.debts.specs.declared.owed.Asked.{Asked}
 use Rattle.debts.specs.declared.owed.Asked.TheVariants.{Removed, Traced, Recording, Applying}
 use Rattle.splits.specs.Numbers.{restated_number}
-use Rattle.splits.specs.Columns.{HalfIndexed}
+use Rattle.splits.specs.Columns.{HalfIndexed, Known}
 use Rattle.debts.specs.Walk.{asks_kind, asks, applying, comes, above}
 use Rattle.splits.proofs.States.{server_cell_lem, word_is, restated_step, restated_cell_lem, restated_mark}
 use Rattle.rules.proofs.Servers.{server_number, server_step}
@@ -37,7 +44,7 @@ either_way : (b : Bool) (n : ℕ) → cond b n n ≡ n
 either_way true n = refl
 either_way false n = refl
 
-pub restated_keeps : (node : ℕ) (x : TraceRecord) (h : History) → is_kind 2 x ≡ true → is_restated node (x ∷ h) ≡ is_restated node h
+restated_keeps : (node : ℕ) (x : TraceRecord) (h : History) → is_kind 2 x ≡ true → is_restated node (x ∷ h) ≡ is_restated node h
 restated_keeps node x h k =
     let e : restated_number node (x ∷ h) ≡ restated_number node h =
     restated_step node x h ∙ rw (kind_apart 2 5 x (λ q. omega arith) k, kind_apart 2 6 x (λ q. omega arith) k)
@@ -73,23 +80,14 @@ module _ (log : List ℕ) (node : ℕ) {count cap : ℕ} {work : List ℕ} (hf :
   kind_same Recording x m n false e f = rw e
   kind_same Applying x m n t e f = refl
 
-  asks_cases : (q : Asked) (range : ℕ) (b : Bool) → is_by node (record_at log k) ≡ b
-      → b && eqb (record_at log k).a range && asks_kind q (record_at log k) (not (eqb (get_or work (restated_at * cap + k) 0) 0))
+  asks_cases : (q : Asked) (range : ℕ) {m : Bool} (b : Bool) → m ≡ not (eqb (get_or work (restated_at * cap + k) 0) 0) → is_by node (record_at log k) ≡ b
+      → b && eqb (record_at log k).a range && asks_kind q (record_at log k) m
       ≡ b && eqb (record_at log k).a range && asks_kind q (record_at log k) (is_restated node (hist log k))
-  asks_cases q range true e =
+  asks_cases q range true em e =
       ap (λ (t : Bool). eqb (record_at log k).a range && t)
-      (kind_same q (record_at log k) _ _ (is_kind 2 (record_at log k)) refl (λ t. marked_at e ∙ restated_keeps node (record_at log k) (hist log k) t))
-  asks_cases q range false e = refl
-
-  -- m: the mark that was read there
-  pub asks_test : (q : Asked) (range : ℕ) {r : Bool} {m : ℕ} → m ≡ get_or work (restated_at * cap + k) 0
-      → r ≡ is_by node (record_at log k) && eqb (record_at log k).a range && asks_kind q (record_at log k) (not (eqb m 0))
-      → r ≡ asks q node range (record_at log k) (hist log k)
-  unfolding asks
-  asks_test q range em e =
-      e
-      ∙ ap (λ (n : ℕ). is_by node (record_at log k) && eqb (record_at log k).a range && asks_kind q (record_at log k) (not (eqb n 0))) em
-      ∙ asks_cases q range (is_by node (record_at log k)) refl
+      (kind_same q (record_at log k) _ _ (is_kind 2 (record_at log k)) refl
+      (λ t. em ∙ marked_at e ∙ restated_keeps node (record_at log k) (hist log k) t))
+  asks_cases q range false em e = refl
 
   applying_same : (index : ℕ) (x : TraceRecord) (m n t : Bool) → is_kind 2 x ≡ t → (t ≡ true → m ≡ n) → applying index x m ≡ applying index x n
   applying_same index x m n true e f = rw (f refl)
@@ -101,36 +99,56 @@ module _ (log : List ℕ) (node : ℕ) {count cap : ℕ} {work : List ℕ} (hf :
       ap (λ (s : ℕ). any_of (λ v. eqb v s) voters) (server_at_lem b (applying_kind index (record_at log k) m e))
   voter_same index voters m false b e = refl
 
-  comes_cases : (range index : ℕ) (voters : List ℕ) (b : Bool) → is_by node (record_at log k) ≡ b
-      → b && eqb (record_at log k).a range && applying index (record_at log k) (not (eqb (get_or work (restated_at * cap + k) 0) 0))
-      && any_of (λ v. eqb v (get_or work (server_at * cap + k) 0)) voters
+  comes_cases : (range index : ℕ) (voters : List ℕ) {m : Bool} (b : Bool) → m ≡ not (eqb (get_or work (restated_at * cap + k) 0) 0)
+      → is_by node (record_at log k) ≡ b
+      → b && eqb (record_at log k).a range && applying index (record_at log k) m && any_of (λ v. eqb v (get_or work (server_at * cap + k) 0)) voters
       ≡ b && eqb (record_at log k).a range && applying index (record_at log k) (is_restated node (hist log k)) && any_of
       (λ v. eqb v (server_number node (hist log k))) voters
-  comes_cases range index voters true e =
-      let m = not (eqb (get_or work (restated_at * cap + k) 0) 0) in
+  comes_cases range index voters {m} true em e =
       let n = is_restated node (hist log k) in
       let q : applying index (record_at log k) m ≡ applying index (record_at log k) n =
-      applying_same index (record_at log k) m n (is_kind 2 (record_at log k)) refl (λ t. marked_at e ∙ restated_keeps node (record_at log k) (hist log k) t) in
+      applying_same index (record_at log k) m n (is_kind 2 (record_at log k)) refl
+      (λ t. em ∙ marked_at e ∙ restated_keeps node (record_at log k) (hist log k) t) in
       and_assoc (eqb (record_at log k).a range) _ _
       ∙ ap (λ (t : Bool). eqb (record_at log k).a range && t)
       (ap (λ (t : Bool). t && any_of (λ v. eqb v (get_or work (server_at * cap + k) 0)) voters) q
       ∙ voter_same index voters n (applying index (record_at log k) n) e refl)
       ∙ sym (and_assoc (eqb (record_at log k).a range) _ _)
-  comes_cases range index voters false e = refl
+  comes_cases range index voters false em e = refl
 
-  -- m, v: the mark and the server that were read there
-  pub comes_test : (range index : ℕ) (voters : List ℕ) {r : Bool} {m v : ℕ} → m ≡ get_or work (restated_at * cap + k) 0 → v
-      ≡ get_or work (server_at * cap + k) 0
-      → r ≡ is_by node (record_at log k) && eqb (record_at log k).a range && applying index (record_at log k) (not (eqb m 0)) && any_of (λ u. eqb u v) voters
-      → r ≡ comes node range index voters (record_at log k) (hist log k)
-  unfolding comes
-  comes_test range index voters {r} {m} {v} em ev e =
+-- restated, server: what was read there
+module _ {p : Past} (ix : Indexed Known p) {old : Taken} (t : IsTaken p old) (node range : ℕ) {restated : Bool}
+    (marked : restated ≡ not (eqb (get_or p.work.now (restated_at * p.cap + (old.number - 1)) 0) 0)) where
+  abbrev at : ℕ
+  at = old.number - 1
+
+  abbrev x : TraceRecord
+  x = decode old.record.now
+
+  below : at < p.count
+  below = omega (arith, t.some, t.within)
+
+  here : x ≡ record_at p.log.now at
+  here = record_bytes p.log.now at t.bytes
+
+  pub asks_test : (q : Asked) {r : Bool} → r ≡ is_by node x && eqb x.a range && asks_kind q x restated
+      → r ≡ asks q node range (record_at p.log.now at) (hist p.log.now at)
+  unfolding asks
+  asks_test q e =
       e
-      ∙ ap (λ (n : ℕ). is_by node (record_at log k) && eqb (record_at log k).a range && applying index (record_at log k) (not (eqb n 0)) && any_of
-      (λ u. eqb u v) voters) em
-      ∙ ap (λ (n : ℕ). is_by node (record_at log k) && eqb (record_at log k).a range && applying index (record_at log k)
-      (not (eqb (get_or work (restated_at * cap + k) 0) 0)) && any_of (λ u. eqb u n) voters) ev
-      ∙ comes_cases range index voters (is_by node (record_at log k)) refl
+      ∙ ap (λ (y : TraceRecord). is_by node y && eqb y.a range && asks_kind q y restated) here
+      ∙ asks_cases p.log.now node ix.1 p.within at below q range (is_by node (record_at p.log.now at)) marked refl
+
+  pub comes_test : (index : ℕ) (voters : List ℕ) {r : Bool} {server : ℕ} → server ≡ get_or p.work.now (server_at * p.cap + at) 0
+      → r ≡ is_by node x && eqb x.a range && applying index x restated && any_of (λ u. eqb u server) voters
+      → r ≡ comes node range index voters (record_at p.log.now at) (hist p.log.now at)
+  unfolding comes
+  comes_test index voters {server = v} es e =
+      e
+      ∙ ap (λ (y : TraceRecord). is_by node y && eqb y.a range && applying index y restated && any_of (λ u. eqb u v) voters) here
+      ∙ ap (λ (n : ℕ). is_by node (record_at p.log.now at) && eqb (record_at p.log.now at).a range && applying index (record_at p.log.now at) restated && any_of
+      (λ u. eqb u n) voters) es
+      ∙ comes_cases p.log.now node ix.1 p.within at below range index voters (is_by node (record_at p.log.now at)) marked refl
 
 -- ---- what is looked for is in the chain
 
@@ -170,16 +188,53 @@ by_coming cap node range index voters = record {
       (eqb-true x.a range (and_right (is_by node x) _ u));
 }
 
--- ---- above a floor
+-- ---- the latest of the first top that passes, where it is above a floor
 
-pub above_found : {floor i n : ℕ} → i ≡ n → floor < i → i ≡ above floor n
+above_found : {floor i n : ℕ} → i ≡ n → floor < i → i ≡ above floor n
 above_found {floor} {i} {n} e l = rw (← e, lt-ltb floor i l)
 
-pub above_none : {floor n : ℕ} → n ≤ floor → 0 ≡ above floor n
+above_none : {floor n : ℕ} → n ≤ floor → 0 ≡ above floor n
 above_none {floor} {n} l = rw (le-ltb floor n l)
 
-pub walk_low : (t : TraceRecord → History → Bool) (f : Tells ℕ) (b : ℕ) (log : List ℕ) (top : ℕ) {floor i : ℕ} → i ≤ floor → Walking t f b log top i
-    → 0 ≡ above floor (latest_number t (hist log top))
-walk_low t f b log top {floor} {i} l w =
-    let e : latest_number t (hist log top) ≡ latest_number t (hist log (min i top)) = w.same in
-    above_none {floor = floor} {n = latest_number t (hist log top)} (omega (arith, e, number_bound t log (min i top)))
+-- what is left of a walk along the chain of a node and a range
+pub record Left (t : TraceRecord → History → Bool) (b : ℕ) (p : Past) (top : ℕ) (c : Chain) : Type 0 where
+  pub on : OnPast p hold_links c
+  pub stands : Indexed Known p → Stands (by_hold p.cap) b p.log.now (latest_to t p.log.now top) (latest_number t (hist p.log.now top)) c.next
+
+module _ {t : TraceRecord → History → Bool} {p : Past} {b : ℕ} (s : Within t (by_hold p.cap) b) {top : ℕ} {c : Chain} where
+  pub left_first : top ≤ p.count → b < p.cap → Begins p hold_heads hold_links b c → Left t b p top c
+  left_first upto l e = record {
+    on = on_first e;
+    stands = λ k.
+        along_first (latest_to t p.log.now top) (outside s p.log.now top) k.0.held refl l (sym (to_top t p.log.now top p.count upto)) e;
+  }
+
+  pub left_next : {d : Chain} {y : Taken} → Left t b p top c → Goes c y d
+      → (Indexed Known p → y.number ≤ top → passes_at t p.log.now (y.number - 1) ≡ false) → Left t b p top d
+  left_next w e f =
+      let n = taken_on w.on e in
+      record {
+        on = on_next w.on e;
+        stands = λ k.
+            along_next (latest_to t p.log.now top) (outside s p.log.now top) k.0.held w.on e (w.stands k)
+            ((along_turn e (w.stands k)).same ∙ to_miss t p.log.now top _ n.some (f k));
+      }
+
+module _ {t : TraceRecord → History → Bool} {p : Past} {b top : ℕ} {c d : Chain} {y : Taken} (w : Left t b p top c) (e : Goes c y d)
+    {floor : ℕ} (ix : Indexed Known p) where
+  -- at or below the floor there is none above it
+  pub left_low : y.number ≤ floor → 0 ≡ above floor (latest_number t (hist p.log.now top))
+  left_low l =
+      above_none {floor = floor} {n = latest_number t (hist p.log.now top)}
+      (omega (arith, (along_turn e (w.stands ix)).same, number_bound t p.log.now (min y.number top)))
+
+  pub left_found : {r : Bool} → floor < y.number → y.number ≤ top → r ≡ passes_at t p.log.now (y.number - 1) → r ≡ true
+      → y.number ≡ above floor (latest_number t (hist p.log.now top))
+  left_found l m f q =
+      above_found (to_hit t p.log.now top y.number (taken_on w.on e).some m (sym f ∙ q) ∙ sym (along_turn e (w.stands ix)).same) l
+
+pub left_none : {t : TraceRecord → History → Bool} {p : Past} {b top : ℕ} {c : Chain} (floor : ℕ) → Left t b p top c → Indexed Known p → c.next ≡ 0
+    → 0 ≡ above floor (latest_number t (hist p.log.now top))
+left_none {t} {p} {top = top} floor w ix z =
+    above_none {floor = floor} {n = latest_number t (hist p.log.now top)}
+    (omega (arith, (w.stands ix).same ∙ ap (latest_to t p.log.now top) z ∙ to_none t p.log.now top))

@@ -1,14 +1,10 @@
--- The split by which a node owes, told by the number of the record that registered it.
+-- The split by which a node comes to owe a right range at a record.
 use Rattle.std.specs.Prelude.{Bool, true, ◌&&◌, List, ◌∷◌, ℕ, eqb, leb, ltb, Option, None, Some}
 use Rattle.record.specs.Records.{TraceRecord}
 use Rattle.rules.specs.History.{any_of, when, given, latest_of, greatest_of}
 use Rattle.rules.specs.RightHalf.{Registered, is_split, registered, registers}
 use Rattle.history.specs.Logs.{record_at, hist}
 use Rattle.debts.specs.Walk.{owes_first}
-
--- the split that the record at place t registered
-abbrev pub placed_split : List ℕ → ℕ → Option Registered
-placed_split log t = registers (record_at log t) (hist log t)
 
 -- ---- the splits of a right range with a server among their voters
 

@@ -13,8 +13,8 @@ use crate::owed::owes_first;
 use history::past::Past;
 use history::walk::Taken;
 use one_owner_per_key::held::is_by;
-use record::{Record, field};
 use record::named::{NodeId, ServerId};
+use record::{Record, field};
 use splits::split::{Split, has_taken, is_voter, parent_of, split_at, split_of};
 use splits::state::{is_restated, server_of};
 use splits::walk::Splits;
@@ -37,8 +37,8 @@ fn applied_split<'a>(
     ensures found { AreSplit past.now result }
     ensures is { Indexed Known past.now → option_map split_of result ≡ applied_split past.now.log.now (old.now.number - 1) right server.0 }
 {
-    split_of(past, old.number - 1, field::a(old.record), field::b(old.record))
-        .filter(|split| is_voted(split, right, server))
+    let (range, index) = (field::a(old.record), field::b(old.record));
+    split_of(past, old.number - 1, range, index).filter(|split| is_voted(split, right, server))
 }
 
 // Whether a RangeDescriptor has applied a split.

@@ -45,6 +45,7 @@ fn is_asked(rec: &Record, restated: bool, asked: Asked) -> bool
 }
 
 // Whether a record is one of a node and a range that is looked for.
+#[tactic(auto, using(crate::proofs::Walks::asks_test))]
 fn is_asked_of(past: &Past, old: &Taken, node: NodeId, range: u64, asked: Asked) -> bool
     requires { IsTaken past.now old.now }
     ensures { let k = old.now.number - 1 in
@@ -90,6 +91,7 @@ fn is_applying(rec: &Record, restated: bool, index: u64) -> bool
 }
 
 // Whether a node comes to owe at a record by the split that another record registered.
+#[tactic(auto, using(crate::proofs::Walks::comes_test))]
 fn is_coming(past: &Past, old: &Taken, node: NodeId, split: &Record) -> bool
     requires { IsTaken past.now old.now }
     ensures { let k = old.now.number - 1 in let s = decode split.now in
@@ -102,8 +104,14 @@ fn is_coming(past: &Past, old: &Taken, node: NodeId, split: &Record) -> bool
 }
 
 // The latest record above a floor at which a node comes to owe by its own application of the split that a record registered.
-fn latest_coming<'a>(past: &Past<'a>, floor: usize, node: NodeId, split: &Record) -> Option<Taken<'a>>
-    ensures { let s = decode split.now in
+fn latest_coming<'a>(
+    past: &Past<'a>,
+    floor: usize,
+    node: NodeId,
+    split: &Record,
+) -> Option<Taken<'a>>
+    ensures found { IsFound past.now result }
+    ensures latest { let s = decode split.now in
         Indexed Known past.now → number_of result ≡ above floor (latest_number (comes node.0 (parent_by s) s.b s.voters) (taken past.now)) }
 {
     for old in hold_chain(past, node, parent_of(split)) {
@@ -118,14 +126,18 @@ fn latest_coming<'a>(past: &Past<'a>, floor: usize, node: NodeId, split: &Record
 }
 
 // The number of the latest record that cancels what a node owes of a right range: its RangeRemoved, or the node's refusal.
+#[tactic(auto, using(crate::proofs::Comings::cancel_found))]
 pub fn cancel_of(past: &Past, node: NodeId, right: u64, refused: usize) -> usize
     ensures { Indexed Known past.now → refused ≡ refused_number node.0 (taken past.now) → result ≡ cancel_number node.0 right (taken past.now) }
 {
-    latest_asked(past, past.count, refused, node, right, Asked::Removed)
-        .map_or(refused, |removed| removed.number)
+    latest_asked(past, past.count, refused, node, right, Asked::Removed).map_or(
+        refused,
+        |removed| removed.number,
+    )
 }
 
 // Whether the index that a node recorded for a range reaches an index; refused: its latest refusal as of the first top records.
+#[tactic(auto, using(crate::proofs::Comings::reached_found))]
 pub fn is_reached(
     past: &Past,
     top: usize,
@@ -137,8 +149,8 @@ pub fn is_reached(
     requires { top ≤ past.now.count }
     ensures { Indexed Known past.now → refused ≡ refused_number node.0 (hist past.now.log.now top) → result ≡ reached past.now.log.now top node.0 range index }
 {
-    latest_asked(past, top, refused, node, range, Asked::Recording)
-        .is_some_and(|recording| index <= field::c(recording.record))
+    latest_asked(past, top, refused, node, range, Asked::Recording).is_some_and(|recording| index
+        <= field::c(recording.record))
 }
 
 // Whether a record is its node's own RangeDescriptor that has applied the split it registers; restated: whether the node is.
@@ -150,6 +162,7 @@ fn is_reaching(rec: &Record, node: NodeId, restated: bool) -> bool
 
 // Whether a node has a part in the split that a record registers, by the first top records: the record is its own, or it
 // has one of the parent that can apply a split. Without a part it owes nothing by that split, and one short chain tells.
+#[tactic(auto, using(crate::proofs::Parts::part_own, crate::proofs::Parts::part_found))]
 pub fn has_part(past: &Past, top: usize, node: NodeId, rec: &Record) -> bool
     requires { top ≤ past.now.count }
     ensures { Indexed Known past.now → result ≡ has_part past.now.log.now top node.0 (decode rec.now) }
@@ -160,7 +173,8 @@ pub fn has_part(past: &Past, top: usize, node: NodeId, rec: &Record) -> bool
 // Whether a node has applied the split that a record registers by the first top records, or applies it there.
 fn is_applied_first(past: &Past, top: usize, node: NodeId, last: usize, rec: &Record) -> bool
     requires { (top ≤ past.now.count) × (last ≤ top) }
-    ensures { Indexed Known past.now → last ≡ latest_by node.0 (hist past.now.log.now top) → result ≡ applied_first past.now.log.now top node.0 (decode rec.now) }
+    ensures { Indexed Known past.now → last ≡ latest_by node.0 (hist past.now.log.now top) →
+        result ≡ applied_first past.now.log.now top node.0 (decode rec.now) }
 {
     let refused = refused_by(past, last);
     let parent = parent_of(rec);
@@ -171,6 +185,7 @@ fn is_applied_first(past: &Past, top: usize, node: NodeId, last: usize, rec: &Re
 }
 
 // Whether a node comes to owe where a record registers a split after the first top records.
+#[tactic(auto, using(crate::proofs::Parts::first_away, crate::proofs::Comings::owes_first_cases, splits::proofs::States::server_is))]
 pub fn owes_first(past: &Past, top: usize, node: NodeId, rec: &Record) -> bool
     requires { top ≤ past.now.count }
     ensures { Indexed Known past.now → result ≡ owes_first past.now.log.now top node.0 (decode rec.now) }
@@ -183,6 +198,7 @@ pub fn owes_first(past: &Past, top: usize, node: NodeId, rec: &Record) -> bool
 }
 
 // Whether a node owes by a split; cancel: the latest record that cancels its right range.
+#[tactic(auto, using(crate::proofs::Comings::owes_coming, crate::proofs::Comings::owes_cancelled, crate::proofs::Comings::owes_at_first))]
 pub fn owes_by(past: &Past, split: &Split, node: NodeId, cancel: usize) -> bool
     requires { IsSplit past.now split.now }
     ensures { Indexed Known past.now → result ≡ owes_split past.now.log.now past.now.count node.0 (split.now.number - 1) cancel }

@@ -22,12 +22,13 @@ use Rattle.history.specs.Places.{applied_heads, applied_links, standing_heads, s
 use Rattle.history.specs.Columns.{Column, cell_of, Chained, Put}
 use Rattle.history.specs.declared.walk.Taken.{Taken}
 use Rattle.history.proofs.Cells.{cell_new, Same, put_apart, column_agrees, column_put, Zeros, column_clear}
-use Rattle.history.proofs.Chains.{chained_agrees, entered, not_entered, chained_clear}
+use Rattle.history.proofs.Chains.{chained_agrees, chained_clear}
+use Rattle.history.proofs.Entries.{Below, length_if, word_if, same_if, chain_if, step_if}
 use Rattle.history.proofs.Mixing.{one_below, two_below}
 use Rattle.history.specs.Buckets.{bucket_by, bucket_by_two}
 use Rattle.descriptors.specs.declared.note.Told.{Told}
 use Rattle.descriptors.specs.declared.note.Told.TheVariants.{Puts, States, Neither}
-use Rattle.descriptors.specs.Columns.{new_value, first_value, same_generation, applied_at, applied_bucket, standing_bucket, stated_bucket, generation_bucket, not_below, is_rising, counts_of, counts_after, DescriptorsIndexed, put, EnteredIf, AllEntered, puts_value, states_value, added, adds_first, adds_rising, Telling, counts_next, own_columns}
+use Rattle.descriptors.specs.Columns.{new_value, first_value, same_generation, applied_at, applied_bucket, standing_bucket, stated_bucket, generation_bucket, not_below, is_rising, counts_of, counts_after, DescriptorsIndexed, put, AllEntered, puts_value, states_value, added, adds_first, adds_rising, Telling, counts_next, own_columns}
 use Rattle.descriptors.specs.Answers.{at_place, greatest_up_to}
 use Rattle.descriptors.proofs.Rising.{counts_by, counts_bound, top_reaches}
 use Rattle.descriptors.proofs.Roles.{new_puts, first_new}
@@ -214,14 +215,6 @@ counts_empty h e = rw (e, counts_by h) (rest_go (length (stated h)) (eqb (length
 
 -- ---- the chains
 
-length_if : (o : Option ℕ) {work work' : List ℕ} {heads links n : ℕ} → EnteredIf work work' heads links n o → length work' ≡ length work
-length_if None e = ap length e.is
-length_if (Some b) e = e.is.len
-
--- a bucket is below the capacity, where there is one
-pub record Below (cap : ℕ) (o : Option ℕ) : Type 0 where
-  pub is : MatchOption o ⊤ (λ b. b < cap)
-
 pub some_below : {cap b : ℕ} (yes : Bool) → b < cap → Below cap (then_some yes b)
 some_below true l = record { is = l }
 some_below false l = record { is = tt }
@@ -233,34 +226,6 @@ when_below false l = record { is = tt }
 applied_below : (cap : ℕ) (x : TraceRecord) → 0 < cap → (n : Node) → Below cap (applied_at cap x n)
 applied_below cap x z None = record { is = tt }
 applied_below cap x z (Some n) = when_below (is_kind 1 x || is_kind 3 x || is_kind 4 x) (two_below n.0 x.a z)
-
-module _ {work work' : List ℕ} {heads links n cap : ℕ} {o : Option ℕ} (e : EnteredIf work work' heads links n o) (l : n < cap) (m : Below cap o) where
-  word_if : (j : ℕ) → (j ≡ links + n → ⊥) → (j < heads) ⊎ (heads + cap ≤ j) → get_or work' j 0 ≡ get_or work j 0
-  word_if = go o e m
-    where
-      go : (o : Option ℕ) → EnteredIf work work' heads links n o → Below cap o → (j : ℕ) → (j ≡ links + n → ⊥) → (j < heads) ⊎ (heads + cap ≤ j)
-          → get_or work' j 0 ≡ get_or work j 0
-      go None c w j p q = ap (λ (w : List ℕ). get_or w j 0) c.is
-      go (Some b) c w j p q = let k : b < cap = w.is in c.is.others j p (λ z. ⊎_elim (λ u. omega arith) (λ u. omega arith) q)
-
-  -- a column before the heads or after the links is as it was
-  same_if : (base : ℕ) → links ≡ heads + cap → (base + cap ≤ heads) ⊎ (heads + 2 * cap ≤ base) → Same base cap work work'
-  same_if base u (inl v) = record { word = λ k w. word_if (base + k) (λ z. omega arith) (inl (omega arith)) }
-  same_if base u (inr v) = record { word = λ k w. word_if (base + k) (λ z. omega arith) (inr (omega arith)) }
-
-  -- and so is a chain
-  chain_if : {f : Tells ℕ} {h : History} (heads2 links2 : ℕ) → links ≡ heads + cap → links2 ≡ heads2 + cap
-      → (heads2 + 2 * cap ≤ heads) ⊎ (heads + 2 * cap ≤ heads2)
-      → Chained f heads2 links2 cap h work → Chained f heads2 links2 cap h work'
-  chain_if heads2 links2 u v (inl w) c = chained_agrees (same_if heads2 u (inl (omega arith))) (same_if links2 u (inl (omega arith))) c
-  chain_if heads2 links2 u v (inr w) c = chained_agrees (same_if heads2 u (inr (omega arith))) (same_if links2 u (inr (omega arith))) c
-
--- the record is entered where it has a bucket
-step_if : {f : Tells ℕ} {heads links cap n : ℕ} {h : History} {x : TraceRecord} {work work' : List ℕ} (o : Option ℕ) → f x h ≡ o → length h ≡ n
-    → n < cap → Below cap o → heads + cap ≤ links → EnteredIf work work' heads links n o → Chained f heads links cap h work
-    → Chained f heads links cap (x ∷ h) work'
-step_if {f} {heads} {links} {cap} {h = h} {x = x} None e p l m u w c = rw w.is (not_entered e c)
-step_if (Some b) e p l m u w c = entered p l m.is u e w.is c
 
 -- ---- the columns with the record
 

@@ -8,7 +8,7 @@ use Rattle.record.specs.Records.{TraceRecord, decode}
 use Rattle.rules.specs.History.{History, Tells, is_kind, is_some, when, given, holds, any_of}
 use Rattle.rules.specs.Descriptors.{Entry, held_by, tells_put, tells_stated, same_place, standing, statements, is_empty}
 use Rattle.history.specs.Buckets.{bucket_by, bucket_by_two}
-use Rattle.history.specs.Columns.{Column, cell_of, Chained, Entered}
+use Rattle.history.specs.Columns.{Column, cell_of, Chained, EnteredIf}
 use Rattle.history.specs.Places.{applied_heads, applied_links, standing_heads, standing_links, stated_heads, stated_links, generation_heads, generation_links, counts}
 use Rattle.history.specs.declared.walk.Taken.{Taken}
 use Rattle.descriptors.specs.declared.note.Added.{Added}
@@ -98,14 +98,6 @@ abbrev pub statement : Option Taken → Option Entry
 statement o = option_map stated_entry o
 
 -- ---- what a new record changes
-
--- entered into the bucket that it has, and else nothing changes
-abbrev pub EnteredAt : List ℕ → List ℕ → ℕ → ℕ → ℕ → Option ℕ → Type 0
-EnteredAt work work' heads links n None = work' ≡ work
-EnteredAt work work' heads links n (Some b) = Entered work work' heads links n b
-
-pub record EnteredIf (work work' : List ℕ) (heads links n : ℕ) (bucket : Option ℕ) : Type 0 where
-  pub is : EnteredAt work work' heads links n bucket
 
 -- what a record is told to do: whether it puts, and what its value is where that newly stands; whether it states
 abbrev pub puts_value : Told → Bool

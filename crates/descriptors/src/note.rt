@@ -7,13 +7,13 @@ ghost use Rattle.rules.specs.Descriptors.{role_of, puts};
 ghost use Rattle.history.specs.Logs.{hist};
 ghost use Rattle.history.specs.Bounds.{Bounds};
 ghost use Rattle.history.specs.Pasts.{taken, Indexed};
-ghost use Rattle.descriptors.specs.Columns.{DescriptorsIndexed, applied_at, EnteredIf, AllEntered, added, puts_value, states_value, adds_first, adds_rising, Telling, counts_next, own_columns};
+ghost use Rattle.descriptors.specs.Columns.{DescriptorsIndexed, applied_at, AllEntered, added, puts_value, states_value, adds_first, adds_rising, Telling, counts_next, own_columns};
 
 use crate::cells::{MARK, counts};
 use crate::role::{Role, applies, role_of};
 use crate::value::{first_of, greatest, index_of, standing_at};
 use history::bucket::{bucket_by, bucket_by_two};
-use history::chain::{enter, put};
+use history::chain::{enter_if, put};
 use history::past::Past;
 use history::place::{
     APPLIED_HEADS, APPLIED_LINKS, COUNTS, GENERATION_HEADS, GENERATION_LINKS, STANDING_HEADS,
@@ -60,17 +60,6 @@ impl Told {
         ensures { result ≡ adds_rising self }
     {
         matches!(self, Told::Puts(Some(Added { rises: true, .. })))
-    }
-}
-
-// Enters the record at place count into the chain of its bucket, where it has one.
-fn enter_if(work: &mut [u64], heads: usize, links: usize, count: usize, bucket: Option<usize>)
-    requires room { (links + count < length work.old) × (count < 4096) }
-    requires within { MatchOption bucket ⊤ (λ b. heads + b < links) }
-    ensures { EnteredIf work.old work.new heads links count bucket }
-{
-    if let Some(bucket) = bucket {
-        enter(work, heads, links, count, bucket);
     }
 }
 

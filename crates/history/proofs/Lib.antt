@@ -9,3 +9,4 @@ pub mod Finds
 pub mod Copies
 pub mod Mixing
 pub mod Options
+pub mod Entries

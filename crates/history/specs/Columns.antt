@@ -50,3 +50,11 @@ pub record Entered (work work' : List ℕ) (heads links n b : ℕ) : Type 0 wher
   pub link_is : get_or work' (links + n) 0 ≡ get_or work (heads + b) 0
   pub head_is : get_or work' (heads + b) 0 ≡ n + 1
   pub others : (j : ℕ) → (j ≡ links + n → ⊥) → (j ≡ heads + b → ⊥) → get_or work' j 0 ≡ get_or work j 0
+
+-- a record at place n entered into the chain of the bucket that it has, and else nothing changes
+abbrev pub EnteredAt : List ℕ → List ℕ → ℕ → ℕ → ℕ → Option ℕ → Type 0
+EnteredAt work work' heads links n None = work' ≡ work
+EnteredAt work work' heads links n (Some b) = Entered work work' heads links n b
+
+pub record EnteredIf (work work' : List ℕ) (heads links n : ℕ) (bucket : Option ℕ) : Type 0 where
+  pub is : EnteredAt work work' heads links n bucket

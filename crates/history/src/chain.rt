@@ -1,7 +1,7 @@
 // Chains of the records of one bucket: for each bucket the number of its latest record, for each record the number of
 // the one before it in its bucket.
-ghost use Rattle.std.specs.Prelude.{◌≡◌, ◌+◌, ◌≤◌, ◌<◌, length, get_or, replicate};
-ghost use Rattle.history.specs.Columns.{clamp, Put, Entered};
+ghost use Rattle.std.specs.Prelude.{◌≡◌, ◌+◌, ◌≤◌, ◌<◌, length, get_or, replicate, IfSome};
+ghost use Rattle.history.specs.Columns.{clamp, Put, Entered, EnteredIf};
 
 // The number at a place of the work area, or 0 where it is above top: so a walk goes down whatever the area holds.
 pub fn link(work: &[u64], at: usize, top: usize) -> usize
@@ -20,6 +20,17 @@ pub fn enter(work: &mut [u64], heads: usize, links: usize, count: usize, bucket:
     let old = work[heads + bucket];
     work[links + count] = old;
     work[heads + bucket] = (count + 1) as u64;
+}
+
+// Enters it into the chain of its bucket, where it has one.
+pub fn enter_if(work: &mut [u64], heads: usize, links: usize, count: usize, bucket: Option<usize>)
+    requires room { (links + count < length work.old) × (count < 4096) }
+    requires within { IfSome bucket (λ b. heads + b < links) }
+    ensures { EnteredIf work.old work.new heads links count bucket }
+{
+    if let Some(bucket) = bucket {
+        enter(work, heads, links, count, bucket);
+    }
 }
 
 // Writes a word.

@@ -10,12 +10,13 @@ use lib.ListN.{length, get_or}
 use Rattle.record.specs.Records.{TraceRecord}
 use Rattle.rules.specs.History.{History, Tells}
 use Rattle.history.specs.Logs.{hist}
-use Rattle.history.specs.Columns.{Column, cell_of, Chained, Put}
+use Rattle.history.specs.Columns.{Column, cell_of, Chained, Put, EnteredIf}
 use Rattle.history.proofs.Logs.{hist_length}
 use Rattle.history.proofs.Cells.{cell_new, cell_old}
-use Rattle.history.proofs.Chains.{chained_agrees, entered, not_entered}
+use Rattle.history.proofs.Chains.{chained_agrees}
+use Rattle.history.proofs.Entries.{length_if, outside_if, step_if}
 use Rattle.splits.specs.declared.note.Cells.{Cells}
-use Rattle.splits.specs.Columns.{server_cell, restated_cell, refused_cell, pending_cell, registered_cell, Known, HalfNoted, Celled, CellsPut, EnteredIn}
+use Rattle.splits.specs.Columns.{server_cell, restated_cell, refused_cell, pending_cell, registered_cell, Known, HalfNoted, Celled, CellsPut}
 
 -- ---- five puts
 
@@ -46,36 +47,18 @@ wrote g h x {base} {cap} {n} {v} {work} {work'} c e q p o = record {
       ];
 }
 
--- ---- the chains
-
-module _ (cap n heads links : ℕ) (work work' : List ℕ) (l : n < cap) (apart : heads + cap ≤ links) where
-  -- an entry leaves every word outside its two columns as it was
-  entry_leaves : (o : Option ℕ) → IfSome o (λ b. b < cap) → EnteredIn o work work' heads links n → (j : ℕ) → (heads ≤ j → j < links + cap → ⊥)
-      → get_or work' j 0 ≡ get_or work j 0
-  entry_leaves None m w j p = ap (λ (v : List ℕ). get_or v j 0) w
-  entry_leaves (Some b) m w j p = w.others j (λ z. p (omega arith) (omega arith)) (λ z. p (omega arith) (omega arith))
-
-  entry_len : (o : Option ℕ) → EnteredIn o work work' heads links n → length work' ≡ length work
-  entry_len None w = ap length w
-  entry_len (Some b) w = w.len
-
-  chained_in : {f : Tells ℕ} {h : History} {x : TraceRecord} → length h ≡ n → (o : Option ℕ) → o ≡ f x h → IfSome o (λ b. b < cap)
-      → EnteredIn o work work' heads links n → Chained f heads links cap h work → Chained f heads links cap (x ∷ h) work'
-  chained_in len None e m w c = rw w (not_entered (sym e) c)
-  chained_in len (Some b) e m w c = entered len l m apart (sym e) w c
-
 -- ---- all of it
 
 module _ (log : List ℕ) {cap n : ℕ} (x : TraceRecord) {r : Cells} {w0 w1 : List ℕ} (w2 w3 : List ℕ) (l : n < cap)
     (within : (IfSome r.split (λ b. b < cap)) × (IfSome r.recording (λ b. b < cap)))
     (known : Known cap (hist log n) w0 → Celled cap x (hist log n) r) (put : CellsPut w0 w1 cap n r)
-    (splits : EnteredIn r.split w1 w2 (28 * cap) (29 * cap) n)
-    (recordings : EnteredIn r.recording w2 w3 (30 * cap) (31 * cap) n) where
+    (splits : EnteredIf w1 w2 (28 * cap) (29 * cap) n r.split)
+    (recordings : EnteredIf w2 w3 (30 * cap) (31 * cap) n r.recording) where
   split_leaves : (j : ℕ) → (28 * cap ≤ j → j < 30 * cap → ⊥) → get_or w2 j 0 ≡ get_or w1 j 0
-  split_leaves j o = entry_leaves cap n (28 * cap) (29 * cap) w1 w2 l (omega arith) r.split within.0 splits j (λ p q. o p (omega arith))
+  split_leaves j o = outside_if splits l (record { is = within.0 }) (omega arith) j (λ p q. o p (omega arith))
 
   recording_leaves : (j : ℕ) → (30 * cap ≤ j → j < 32 * cap → ⊥) → get_or w3 j 0 ≡ get_or w2 j 0
-  recording_leaves j o = entry_leaves cap n (30 * cap) (31 * cap) w2 w3 l (omega arith) r.recording within.1 recordings j (λ p q. o p (omega arith))
+  recording_leaves j o = outside_if recordings l (record { is = within.1 }) (omega arith) j (λ p q. o p (omega arith))
 
   -- the entries leave a word outside the four columns
   entries : (j : ℕ) → (28 * cap ≤ j → j < 32 * cap → ⊥) → get_or w3 j 0 ≡ get_or w1 j 0
@@ -96,9 +79,7 @@ module _ (log : List ℕ) {cap n : ℕ} (x : TraceRecord) {r : Cells} {w0 w1 : L
 
   pub noted : HalfNoted cap (hist log n) x w0 w3
   noted = record {
-    len =
-        entry_len cap n (30 * cap) (31 * cap) w2 w3 l (omega arith) r.recording recordings
-        ∙ entry_len cap n (28 * cap) (29 * cap) w1 w2 l (omega arith) r.split splits ∙ put.len;
+    len = length_if r.recording recordings ∙ length_if r.split splits ∙ put.len;
     below = λ j m. other_word j (omega arith) (λ z. omega arith) (λ z. omega arith) (λ z. omega arith) (λ z. omega arith) (λ z. omega arith);
     names = λ j m o. other_word j (omega arith) (λ z. omega arith) (λ z. omega arith) (λ z. omega arith) (λ z. omega arith) (λ z. omega arith);
     above = λ j m. entries j (λ p q. omega arith) ∙ put_leaves j (omega arith);
@@ -124,9 +105,9 @@ module _ (log : List ℕ) {cap n : ℕ} (x : TraceRecord) {r : Cells} {w0 w1 : L
           splits = chained_agrees
               (record { word = λ k m. recording_leaves _ (λ p q. omega arith) })
               (record { word = λ k m. recording_leaves _ (λ p q. omega arith) })
-              (chained_in cap n (28 * cap) (29 * cap) w1 w2 l (omega arith) len r.split cs.split within.0 splits
+              (step_if r.split (sym cs.split) len l (record { is = within.0 }) (omega arith) splits
               (chained_agrees (record { word = λ k m. put_leaves _ (omega arith) }) (record { word = λ k m. put_leaves _ (omega arith) }) hf.splits));
-          recordings = chained_in cap n (30 * cap) (31 * cap) w2 w3 l (omega arith) len r.recording cs.recording within.1 recordings
+          recordings = step_if r.recording (sym cs.recording) len l (record { is = within.1 }) (omega arith) recordings
               (chained_agrees
               (record { word = λ k m. split_leaves _ (λ p q. omega arith) ∙ put_leaves _ (omega arith) })
               (record { word = λ k m. split_leaves _ (λ p q. omega arith) ∙ put_leaves _ (omega arith) })

@@ -5,7 +5,7 @@ use Rattle.record.specs.Records.{TraceRecord}
 use Rattle.rules.specs.History.{History, Tells, is_kind, when, given}
 use Rattle.rules.specs.RightHalf.{server_of, is_restated, registers}
 use Rattle.history.specs.Buckets.{mix, mix_after, bucket}
-use Rattle.history.specs.Columns.{Column, cell_of, Chained, clamp, Entered}
+use Rattle.history.specs.Columns.{Column, cell_of, Chained, clamp}
 use Rattle.history.specs.Places.{server_at, restated_at, refused_at, pending_at, registered_by, latest_name, split_heads, split_links, recorded_heads, recorded_links}
 use Rattle.one_owner_per_key.specs.Columns.{word_by, OwnersIndexed}
 use Rattle.splits.specs.declared.note.Cells.{Cells}
@@ -95,11 +95,6 @@ pub record CellsPut (work work' : List ℕ) (cap n : ℕ) (r : Cells) : Type 0 w
   pub registered : get_or work' (registered_by * cap + n) 0 ≡ r.registered
   pub others : (j : ℕ) → (j ≡ server_at * cap + n → ⊥) → (j ≡ restated_at * cap + n → ⊥) → (j ≡ refused_at * cap + n → ⊥)
       → (j ≡ pending_at * cap + n → ⊥) → (j ≡ registered_by * cap + n → ⊥) → get_or work' j 0 ≡ get_or work j 0
-
--- a record entered into the chain of its bucket, where it is in one, and else nothing written
-abbrev pub EnteredIn : Option ℕ → List ℕ → List ℕ → ℕ → ℕ → ℕ → Type 0
-EnteredIn None work work' heads links n = work' ≡ work
-EnteredIn (Some b) work work' heads links n = Entered work work' heads links n b
 
 -- ---- what is read
 

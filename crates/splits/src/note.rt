@@ -11,7 +11,7 @@ ghost use Rattle.history.specs.Pasts.{taken, Indexed};
 ghost use Rattle.history.specs.Places.{restated_at, refused_at};
 ghost use Rattle.one_owner_per_key.specs.Numbers.{latest_by};
 ghost use Rattle.splits.specs.Numbers.{pending_number};
-ghost use Rattle.splits.specs.Columns.{Known, HalfNoted, Celled, CellsPut, EnteredIn, server_in, registering_in, split_bucket, recorded_bucket};
+ghost use Rattle.splits.specs.Columns.{Known, HalfNoted, Celled, CellsPut, server_in, registering_in, split_bucket, recorded_bucket};
 ghost use Rattle.splits.specs.Splits.{parent_by};
 
 use crate::cells::{
@@ -19,7 +19,7 @@ use crate::cells::{
     split_bucket,
 };
 use crate::split::{parent_of, registers, uses_up};
-use history::chain::{enter, put};
+use history::chain::{enter_if, put};
 use history::past::Past;
 use history::place::{
     PENDING_AT, RECORDED_HEADS, RECORDED_LINKS, REFUSED_AT, REGISTERED_BY, RESTATED_AT, SERVER_AT,
@@ -162,16 +162,6 @@ fn put_cells(work: &mut [u64], cap: usize, count: usize, cells: &Cells)
     put(work, REGISTERED_BY * cap + count, cells.registered);
 }
 
-// Enters a record into the chain of its bucket, where it is in one.
-fn enter_in(work: &mut [u64], heads: usize, links: usize, count: usize, bucket: Option<usize>)
-    requires { IfSome bucket (λ b. (heads + b < links) × ((links + count < length work.old) × (count < 4096))) }
-    ensures { EnteredIn bucket work.old work.new heads links count }
-{
-    if let Some(bucket) = bucket {
-        enter(work, heads, links, count, bucket);
-    }
-}
-
 // Notes a record as the next: before or after it is written to the log.
 pub fn note(log: &[u8], work: &mut [u64], count: usize, cap: usize, rec: &Record)
     requires { Bounds log.now work.old count cap × (count < cap) }
@@ -185,14 +175,14 @@ pub fn note(log: &[u8], work: &mut [u64], count: usize, cap: usize, rec: &Record
     };
     let cells = cells_of(&past, rec);
     put_cells(work, cap, count, &cells);
-    enter_in(
+    enter_if(
         work,
         SPLIT_HEADS * cap,
         SPLIT_LINKS * cap,
         count,
         cells.split,
     );
-    enter_in(
+    enter_if(
         work,
         RECORDED_HEADS * cap,
         RECORDED_LINKS * cap,

@@ -6,5 +6,5 @@ use Rattle.splits.proofs.note.note.Goals as goal
 pub returns : goal.returns
 returns c =
     let a = c.args in
-    noted a.log.now (decode a.rec.now) _ _ c.requires.1 c.cells_of-cells.ensures.within c.cells_of-cells.ensures.cells c.put_cells.ensures c.enter_in.ensures
-    c.enter_in-2.ensures
+    noted a.log.now (decode a.rec.now) _ _ c.requires.1 c.cells_of-cells.ensures.within c.cells_of-cells.ensures.cells c.put_cells.ensures c.enter_if.ensures
+    c.enter_if-2.ensures
