@@ -6,82 +6,68 @@ use mathlib.Core.List.{List, ◌∷◌}
 use mathlib.Core.Logic.{inl, inr}
 use Rattle.std.proofs.lemmas.Option.{same_Some}
 use Rattle.std.specs.Prelude.{Option, None, Some}
-use Prim.Native.Nat.{ℕ, zero, suc, ◌-◌, ◌≤◌, ◌<◌}
+use Prim.Native.Nat.{ℕ, zero, suc, ◌-◌, ◌≤◌, ◌<◌, ◌*◌}
 use native.Mathlib.Omega.{arith}
-use native.Mathlib.Decide.{ℕ_discrete, dec_lt}
 use lib.Dec.{eqb, leb, ltb}
-use borrow.Author.Tests.{eqb-false, lt-ltb, le-ltb, not-true}
-use Rattle.record.specs.Records.{TraceRecord}
+use borrow.Author.Tests.{eqb-false, ne_eqb, lt-ltb, le-ltb, not-true}
+use Rattle.record.specs.Records.{TraceRecord, decode}
 use Rattle.rules.specs.History.{History, is_kind, is_by, when, or_else, is_some, holds, any_of, latest}
 use Rattle.rules.specs.OneOwnerPerKey.{has_hold}
-use Rattle.rules.specs.RightHalf.{Registered, registers, reaches, has_applied, is_voter, server_of, is_restated, cancels, debt_at, owes, tells_restated_with, restated_with, lacks}
+use Rattle.rules.specs.RightHalf.{Registered, registers, reaches, has_applied, is_voter, is_restated, cancels, debt_at, owes, tells_restated_with, restated_with, lacks}
 use Rattle.record.proofs.Booleans.{never, and_left, and_right, or_elim, or_right, decide}
 use Rattle.rules.proofs.Marks.{kind_apart}
 use Rattle.rules.proofs.Registering.{registers_kind}
 use Rattle.rules.proofs.Debts.{owes_arises, owes_kept}
+use Rattle.history.specs.declared.past.Past.{Past}
 use Rattle.history.specs.Logs.{record_at, hist}
+use Rattle.history.specs.Pasts.{taken, Indexed, IsTaken}
 use Rattle.history.proofs.Logs.{hist_none, hist_length, hist_suc}
-use Rattle.one_owner_per_key.proofs.Latest.{number_bound, number_is, number_over, at_hit, at_miss}
-use Rattle.splits.specs.Numbers.{restated_number, refuses, refused_number, is_registering, latest_registering, named_number}
-use Rattle.debts.specs.Walk.{cancel_number, applying, comes, reached, owes_split}
-use Rattle.splits.specs.Splits.{right_by}
-use Rattle.splits.proofs.States.{restated_step, restated_none, restated_bound, restated_mark}
+use Rattle.one_owner_per_key.proofs.Latest.{number_bound, at_hit, at_miss}
+use Rattle.splits.specs.Numbers.{restated_number, refuses, refused_number, latest_registering}
+use Rattle.debts.specs.Walk.{cancel_number, applying, comes, owes_split}
+use Rattle.splits.proofs.States.{mark_is, server_is, restated_step, restated_none, restated_bound, restated_mark}
 use Rattle.debts.proofs.Arising.{Arisen, own, early, itself, arisen}
 use Rattle.rules.proofs.Arising.{debt_registering}
-use Rattle.debts.proofs.Owing.{reached_is, split_owes, owes_split_lem}
-use Rattle.splits.proofs.Registered.{split_is, some_split}
+use Rattle.debts.proofs.Owing.{split_owes, owes_split_lem}
+use Rattle.splits.specs.declared.split.Split.{Split}
+use Rattle.splits.specs.Columns.{Known, server_in}
+use Rattle.history.specs.Columns.{number_in}
+use Rattle.history.specs.declared.walk.Taken.{Taken}
+use Rattle.record.specs.declared.named.ServerId.{ServerId}
+use Rattle.one_owner_per_key.specs.Numbers.{latest_by}
+use Rattle.splits.specs.Walk.{split_of, IsSplit}
+use Rattle.splits.proofs.Finding.{Passed, passed_first, passed_next}
 
--- ---- a walk over the registering records for one by which a right range is owed stands before i: none from i on is
+-- ---- a walk over the registered splits for one by which a right range is owed: none that it passed is
 
-pub record Unowed (log : List ℕ) (n node right i : ℕ) : Type 0 where
-  pub here : 0 < i → is_registering (record_at log (i - 1)) (hist log (i - 1)) ≡ true
-  pub done : (t : ℕ) (s : Registered) → i ≤ t → t < n → registers (record_at log t) (hist log t) ≡ Some s → s.right ≡ right
-      → owes_split log n node t (cancel_number node right (hist log n)) ≡ false
+abbrev pub Unowed : List ℕ → ℕ → ℕ → ℕ → ℕ → Type 0
+Unowed log n node right i =
+    Passed (λ t s. s.right ≡ right → owes_split log n node t (cancel_number node right (hist log n)) ≡ false) log n i
 
 module _ (log : List ℕ) (n node right : ℕ) where
   pub owed_first : {i : ℕ} → i ≡ latest_registering (hist log n) → Unowed log n node right i
-  owed_first {i} e = record {
-    here = λ l. rw e (number_is is_registering log n (rw e at l));
-    done = λ t s a b r h. let o = number_over is_registering log n t b (ap is_some r) in absurd (omega (arith, o, e));
-  }
-
-  module _ {i m v : ℕ} (o : 0 < i) (l : i ≤ n) (w : Unowed log n node right i) (em : m ≡ named_number (record_at log (i - 1)) (hist log (i - 1)))
-      (er : v ≡ right_by log (record_at log (i - 1)) m) where
-    right_is : (s : Registered) → registers (record_at log (i - 1)) (hist log (i - 1)) ≡ Some s → v ≡ s.right
-    right_is s r = er ∙ ap (right_by log (record_at log (i - 1))) em ∙ ap (λ (z : Registered). z.right) (split_is log (record_at log (i - 1)) (i - 1) s r)
-
-    pub owed_here : {t : Bool} {c : ℕ} → v ≡ right → c ≡ cancel_number node right (hist log n) → t ≡ owes_split log n node (i - 1) c → t ≡ true
-        → true ≡ is_some (owes node right (hist log n))
-    owed_here {t} {c} ev ec et z =
-        let q = some_split (registers (record_at log (i - 1)) (hist log (i - 1))) (w.here o) in
-        let e : q.0.right ≡ right = sym (right_is q.0 q.1) ∙ ev in
-        sym (ap (λ (k : ℕ). is_some (owes node k (hist log n))) (sym e)
-        ∙ split_owes log n node q.0 (i - 1) (omega arith) q.1 (ec ∙ ap (λ (k : ℕ). cancel_number node k (hist log n)) (sym e)) (sym et ∙ z))
-
-    -- the record at i - 1 does not make it owed: another right range, or not owed by that split
-    pub owed_next : {j : ℕ} → (v ≡ right → owes_split log n node (i - 1) (cancel_number node right (hist log n)) ≡ false)
-        → j ≡ latest_registering (hist log (i - 1)) → Unowed log n node right j
-    owed_next {j} not_here ej = record {
-      here = λ k. rw ej (number_is is_registering log (i - 1) (rw ej at k));
-      done = λ t u a b r h.
-          elim (ℕ_discrete t (i - 1)) [
-            | yes z ↦
-                let g : registers (record_at log (i - 1)) (hist log (i - 1)) ≡ Some u = ap (λ (k : ℕ). registers (record_at log k) (hist log k)) (sym z) ∙ r in
-                ap (λ (k : ℕ). owes_split log n node k (cancel_number node right (hist log n))) z ∙ not_here (right_is u g ∙ h)
-            | no z ↦
-                elim (dec_lt t (i - 1)) [
-                  | yes c ↦ let v' = number_over is_registering log (i - 1) t c (ap is_some r) in absurd (omega (arith, v', ej))
-                  | no c ↦ w.done t u (omega arith) b r h
-                ]
-          ];
-    }
+  owed_first = passed_first (λ t s. s.right ≡ right → owes_split log n node t (cancel_number node right (hist log n)) ≡ false) log n
 
   pub owed_end : {i : ℕ} → i ≡ 0 → Unowed log n node right i → false ≡ is_some (owes node right (hist log n))
   owed_end {i} z w =
       elim (decide (is_some (owes node right (hist log n)))) [
-        | inl e ↦ let o = owes_split_lem log n node right e in never o.owing (w.done o.at o.split (omega arith) o.before o.is o.its)
+        | inl e ↦ let o = owes_split_lem log n node right e in never o.owing (w o.at o.split (omega arith) o.before o.is o.its)
         | inr e ↦ sym e
       ]
+
+module _ (p : Past) (node right : ℕ) (ix : Indexed Known p) {x : Split} (z : IsSplit p x) where
+  pub owed_here : {c : ℕ} → x.right ≡ right → c ≡ cancel_number node right (taken p) → owes_split p.log.now p.count node (x.number - 1) c ≡ true
+      → true ≡ is_some (owes node right (taken p))
+  owed_here e ec h =
+      sym (ap (λ (k : ℕ). is_some (owes node k (taken p))) (sym e)
+      ∙ split_owes p.log.now p.count node (split_of x) (x.number - 1) (omega (arith, z.some, z.within)) (z.is ix)
+      (ec ∙ ap (λ (k : ℕ). cancel_number node k (taken p)) (sym e)) h)
+
+  -- a split of another right range, or one by which it is not owed
+  pub owed_next : {i j : ℕ} → x.number ≡ i → Unowed p.log.now p.count node right i
+      → (x.right ≡ right → owes_split p.log.now p.count node (x.number - 1) (cancel_number node right (taken p)) ≡ false)
+      → j ≡ latest_registering (hist p.log.now (i - 1)) → Unowed p.log.now p.count node right j
+  owed_next k w not_here e = passed_next p z ix k w (λ t s d. d) not_here e
 
 -- ---- what was held at the latest RangesRestated
 
@@ -202,14 +188,15 @@ module _ (x : TraceRecord) (h : History) (node : ℕ) (s : Registered) (r : regi
   pub lacks_unreached : is_restated node h ≡ true → reaches node s h ≡ false → false ≡ lacks s x h node
   lacks_unreached e f = rw (e, f)
 
--- a voter of the record is one of the split that it registers
-pub voter_of : (log : List ℕ) (x : TraceRecord) (n node : ℕ) (s : Registered) {v : Bool} {k : ℕ} → registers x (hist log n) ≡ Some s
-    → k ≡ (server_of node (hist log n)).0
-    → v ≡ any_of (λ u. eqb u k) x.voters → is_voter node (hist log n) s ≡ v
-voter_of log x n node s {v} {k} r e f =
-    ap (is_voter node (hist log n)) (sym (split_is log x n s r)) ∙ ap (λ (j : ℕ). any_of (λ u. eqb u j) x.voters) (sym e) ∙ sym f
+-- ---- what the code reads of a node at its latest record
 
-pub reaches_as : (log : List ℕ) (n node : ℕ) (s : Registered) {v : Bool} {p i : ℕ} → p ≡ s.parent → i ≡ s.index → v ≡ reached log n node p i
-    → reaches node s (hist log n) ≡ v
-reaches_as log n node s ep ei e =
-    reached_is log n node s ∙ ap (λ (k : ℕ). reached log n node k s.index) (sym ep) ∙ ap (reached log n node _) (sym ei) ∙ sym e
+module _ (p : Past) (node : ℕ) {last : ℕ} (upto : p.count ≤ p.count) (e : last ≡ latest_by node (taken p)) (ix : Indexed Known p) where
+  -- where its latest RangesRestated is found, it is restated
+  pub known_restated : {y : Taken} → IsTaken p y → y.number ≡ number_in (23 * p.cap) p.work.now last → is_restated node (taken p) ≡ true
+  known_restated {y} t q =
+      sym (mark_is p.log.now node p.within upto e ix.1.restated q) ∙ ap not (ne_eqb y.number 0 (λ z. omega (arith, t.some, z)))
+
+  -- a voter of the record is one of the split that it registers
+  pub voter_of : (s : Split) {k : ServerId} {v : Bool} → k.0 ≡ server_in p.work.now p.cap last node → v ≡ any_of (λ u. eqb u k.0) (decode s.record.now).voters
+      → is_voter node (taken p) (split_of s) ≡ v
+  voter_of s {k} f g = sym (g ∙ ap (λ (j : ℕ). any_of (λ u. eqb u j) (decode s.record.now).voters) (server_is p.log.now node ix.1.servers p.within upto e f))

@@ -99,8 +99,7 @@ fn applied_case(past: &Past, rec: &Record, node: NodeId) -> Option<Fault>
 // What half says of a record's registering: the lowest node that lacks the right range. `named` is the number of the record that
 // names it: the record itself, or one taken.
 fn registering_case(past: &Past, rec: &Record, named: usize) -> Option<Fault>
-    requires { 0 < named }
-    ensures { Indexed Known past.now → named ≡ named_number (decode rec.now) (taken past.now) → result ≡ case_of (registering_fault (decode rec.now) (taken past.now)) (registers (decode rec.now) (taken past.now)) }
+    ensures { Indexed Known past.now → named ≡ named_number (decode rec.now) (taken past.now) → 0 < named → result ≡ case_of (registering_fault (decode rec.now) (taken past.now)) (registers (decode rec.now) (taken past.now)) }
 {
     let naming = past.numbered(named).map_or(rec, |old| old.record);
     let split = Split {

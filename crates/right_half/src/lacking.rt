@@ -52,7 +52,14 @@ pub fn lacks_at(past: &Past, node: NodeId, split: &Split) -> bool
     };
     let refused = refused_by(past, last);
     let index = field::b(split.record);
-    if !is_reached(past, past.count, refused, node, parent_of(split.record), index) {
+    if !is_reached(
+        past,
+        past.count,
+        refused,
+        node,
+        parent_of(split.record),
+        index,
+    ) {
         return false;
     }
     if was_held(past, node, &restated, refused, split.right) {

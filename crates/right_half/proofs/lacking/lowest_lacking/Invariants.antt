@@ -1,21 +1,20 @@
--- Every node that lacks it recorded an index of the parent.
-use Rattle.history.specs.Pasts.{Indexed}
-use Rattle.history.specs.Pasts.{taken}
+-- The nodes of the records that the walk passed are taken over.
 use mathlib.Core.Path.{◌≡◌}
 use Rattle.std.specs.Prelude.{Some}
-use Prim.Native.Nat.{◌≤◌}
 use Rattle.record.specs.Records.{decode}
-use Rattle.rules.specs.RightHalf.{Registered, registers, lacks}
+use Rattle.rules.specs.RightHalf.{registers, lacks}
+use Rattle.history.specs.Pasts.{taken, Indexed}
+use Rattle.history.specs.Places.{recorded_links}
+use Rattle.history.proofs.Pasts.{OnPast}
 use Rattle.splits.specs.Columns.{Known, recorded_bucket, by_recording}
+use Rattle.splits.specs.Splits.{parent_by}
+use Rattle.splits.specs.Walk.{split_of}
 use Rattle.right_half.proofs.Lowering.{Lowering}
 use Rattle.right_half.proofs.lacking.lowest_lacking.Given as goal
 
-abbrev pub invariant-loop-i : goal.invariant-loop-i
-invariant-loop-i l =
-    (l.i ≤ l.past.count) × (Indexed Known l.past → (s : Registered) → registers (decode l.rec) (taken l.past) ≡ Some s → l.parent
-    ≡ s.parent → l.index
-    ≡ s.index → l.right ≡ s.right → Lowering (by_recording l.past.cap) (recorded_bucket l.past.cap l.parent) l.past.log.now l.past.count
-    (lacks s (decode l.rec) (taken l.past)) l.i l.best)
-
-abbrev pub decreases-loop-i : goal.decreases-loop-i
-decreases-loop-i l = l.i
+abbrev pub invariant-loop-old : goal.invariant-loop-old
+invariant-loop-old l =
+    (OnPast l.past recorded_links l.old-iterator)
+    × (Indexed Known l.past → registers (decode l.split.record.now) (taken l.past) ≡ Some (split_of l.split)
+    → Lowering (by_recording l.past.cap) (recorded_bucket l.past.cap (parent_by (decode l.split.record.now))) l.past.log.now l.past.count
+    (lacks (split_of l.split) (decode l.split.record.now) (taken l.past)) l.old-iterator.next l.best)

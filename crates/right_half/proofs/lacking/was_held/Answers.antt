@@ -1,16 +1,23 @@
--- What it held then, unless a refusal came since.
+-- Dropped by a refusal since, or as it was held there.
 use mathlib.Core.Path.{sym, ◌∙◌}
+use borrow.Author.Tests.{le-ltb}
 use Prim.Native.Nat.{◌-◌}
 use Rattle.history.specs.Logs.{hist}
 use Rattle.one_owner_per_key.proofs.Checks.{found_held}
 use Rattle.right_half.proofs.Lacks.{with_dropped, with_held}
 use Rattle.right_half.proofs.lacking.was_held.Goals as goal
 
-pub returns-then-restated-refused : goal.returns-then-restated-refused
-returns-then-restated-refused c = let a = c.args in λ ix e f g. with_dropped a.node.0 a.range a.past.now.log.now a.past.now.count e f g c.if-restated-refused.true
-
-pub returns : goal.returns
-returns c =
+pub returns-then-refused-restated : goal.returns-then-refused-restated
+returns-then-refused-restated c =
     let a = c.args in
-    λ ix e f g. with_held a.node.0 a.range a.past.now.log.now a.past.now.count e f g c.if-restated-refused.false
-    (found_held a.node.0 a.range (hist a.past.now.log.now (a.restated - 1)) (c.held_by.ensures ix.0) ∙ sym c.is_some.ensures)
+    let p = a.past.now in
+    let k = a.restated.now.number in
+    λ ix ek ef is. with_held a.node.0 a.range p.log.now p.count ek ef is c.if-refused-restated.true
+    (found_held a.node.0 a.range (hist p.log.now (k - 1)) (c.held_by.ensures ix.0) ∙ sym c.is_some.ensures)
+
+pub returns-else-refused-restated : goal.returns-else-refused-restated
+returns-else-refused-restated c =
+    let a = c.args in
+    let p = a.past.now in
+    λ ix ek ef is. le-ltb a.refused a.restated.now.number c.if-refused-restated.false
+    ∙ with_dropped a.node.0 a.range p.log.now p.count ek ef is c.if-refused-restated.false

@@ -1,63 +1,62 @@
--- All registering records from i on are taken over.
-use Rattle.history.proofs.Pasts.{bounds}
-use mathlib.Core.Path.{sym, ap, ◌∙◌}
+-- One split more: a right range that is not below the lowest so far cannot lower it.
+use mathlib.Core.Path.{sym, ◌∙◌}
 use native.Mathlib.Omega.{arith}
 use Prim.Native.Nat.{◌-◌}
-use Rattle.record.specs.Records.{TraceRecord}
-use Rattle.rules.specs.History.{is_kind}
-use Rattle.history.specs.Logs.{record_at}
-use Rattle.history.proofs.Logs.{record_bytes}
 use Rattle.one_owner_per_key.proofs.AsOf.{end_is}
-use Rattle.splits.specs.Splits.{right_by}
 use Rattle.splits.proofs.States.{refused_is}
-use Rattle.splits.proofs.Noting.{registering_read, named_read}
-use Rattle.right_half.proofs.Searches.{search_first, search_next, search_end}
-use Rattle.splits.proofs.Registered.{named_range, range_of}
+use Rattle.splits.proofs.Finding.{on_first, first_is, on_next, next_is, split_on, walk_over}
+use Rattle.right_half.specs.Answers.{lacks_split}
+use Rattle.right_half.proofs.Searches.{lowered_above, lowered_new, lowered_not, search_first, search_next, search_end}
+use Rattle.right_half.proofs.missing.lowest_missing.Goals.{else-is_below-via-then-is_below+else-is_lacking, else-is_below-via-else-is_below}
 use Rattle.right_half.proofs.missing.lowest_missing.Goals as goal
 
-pub loop-i-init : goal.loop-i-init
-loop-i-init c =
-    let a = c.args in (
-      c.registering_by-i.ensures.0,
-      λ ix. search_first a.past.now.log.now a.past.now.count a.node.0
-          (c.registering_by-i.ensures.1 ∙ registering_read a.past.now.log.now ix.1.registered c.args.past.now.within
-          c.args.past.now.small a.past.now.count (omega arith)),
+pub loop-split-init : goal.loop-split-init
+loop-split-init c =
+    let p = c.args.past.now in
+    let z = rw (← c.into_iter-split-iterator.ensures.into_iter_gives) at c.of-split-items.ensures in
+    (on_first p (omega arith) z, λ ix. search_first p.log.now p.count c.args.node.0 (first_is p ix (omega arith) z))
+
+pub loop-split-preserved-then-is_lacking : goal.loop-split-preserved-then-is_lacking
+loop-split-preserved-then-is_lacking c =
+    let a = c.args in
+    let p = a.past.now in
+    let o = c.loop-split.invariant.0 in
+    let e = c.in-Some.ensures.steps in (
+      on_next p o e,
+      λ ix.
+          let last = c.latest_of-last.ensures.latest ix.0 in
+          let ended = c.end_by-ended.ensures.1 ∙ end_is p.log.now p.count a.node.0 ix.0 p.within (omega arith) last in
+          let refused = refused_is p.log.now a.node.0 p.within (omega arith) last ix.1.refused c.refused_by-refused.ensures.1 in
+          search_next p a.node.0 ix (split_on p o e) e.number (c.loop-split.invariant.1 ix)
+          (lowered_new c.in-Some.split.right c.loop-split.best (sym c.is_below.ensures ∙ c.if-is_below.true)
+          (sym (c.is_lacking.ensures ix ended refused) ∙ c.if-is_lacking.true))
+          (next_is p o e ix),
     )
 
-pub overflow_sub-at : goal.overflow_sub-at
-overflow_sub-at c = omega arith
-
-pub loop-i-smaller : goal.loop-i-smaller
-loop-i-smaller c = omega (arith, c.registering_by-i-in-loop-i.ensures.0)
-
-pub loop-i-preserved : goal.loop-i-preserved
-loop-i-preserved c =
+pub loop-split-preserved : goal.loop-split-preserved
+loop-split-preserved c =
     let a = c.args in
-    let p = (bounds c.args.past.now) in
-    let l = c.loop-i in
-    let y = record_bytes a.past.now.log.now (l.i - 1) c.record.ensures in (
-      omega (arith, c.registering_by-i-in-loop-i.ensures.0, l.invariant.0),
+    let p = a.past.now in
+    let o = c.loop-split.invariant.0 in
+    let e = c.in-Some.ensures.steps in
+    let s = c.in-Some.split in (
+      on_next p o e,
       λ ix.
-          let w = l.invariant.1 ix in
-          let m =
-          c.named_by.ensures
-          ∙ named_read a.past.now.log.now ix.1.registered p.within p.small (l.i - 1) (omega (arith, l.invariant.0)) in
           let last = c.latest_of-last.ensures.latest ix.0 in
-          let d =
-          c.end_by-ended.ensures.1
-          ∙ end_is a.past.now.log.now a.past.now.count a.node.0 ix.0 p.within (omega arith) last in
-          search_next a.past.now.log.now a.past.now.count a.node.0 c.loop-i-test.true l.invariant.0 w m
-          (c.right_of-right.ensures (λ k. range_of a.past.now.log.now (l.i - 1) a.past.now.count (omega (arith, l.invariant.0)) m
-          (named_range a.past.now.log.now (record_at a.past.now.log.now (l.i - 1)) (l.i - 1) (w.here c.loop-i-test.true)
-          (ap (λ (z : TraceRecord). is_kind 1 z) (sym y) ∙ k)))
-          ∙ ap (λ (z : TraceRecord). right_by a.past.now.log.now z c.named_by.result) y)
-          (c.lowered-best.ensures ix d (refused_is a.past.now.log.now a.node.0 p.within (omega arith) last ix.1.refused
-          c.refused_by-refused.ensures.1))
-          (c.registering_by-i-in-loop-i.ensures.1 ∙ registering_read a.past.now.log.now ix.1.registered p.within p.small (l.i - 1) (omega (arith, l.invariant.0))),
+          let ended = c.end_by-ended.ensures.1 ∙ end_is p.log.now p.count a.node.0 ix.0 p.within (omega arith) last in
+          let refused = refused_is p.log.now a.node.0 p.within (omega arith) last ix.1.refused c.refused_by-refused.ensures.1 in
+          search_next p a.node.0 ix (split_on p o e) e.number (c.loop-split.invariant.1 ix)
+          (elim c.else-is_below.branch [
+            | else-is_below-via-then-is_below+else-is_lacking w ↦
+                lowered_not s.right c.loop-split.best (sym (w.is_lacking.ensures ix ended refused) ∙ w.if-is_lacking.false)
+            | else-is_below-via-else-is_below w ↦
+                lowered_above (lacks_split p.log.now p.count a.node.0 (s.number - 1) s.right) s.right c.loop-split.best
+                (sym c.is_below.ensures ∙ w.if-is_below.false)
+          ])
+          (next_is p o e ix),
     )
 
 pub returns : goal.returns
 returns c =
-    let a =
-    c.args in λ ix. search_end a.past.now.log.now a.past.now.count a.node.0 (omega arith)
-    (c.loop-i.invariant.1 ix)
+    let p = c.args.past.now in
+    λ ix. search_end p.log.now p.count c.args.node.0 (walk_over p c.loop-split.invariant.0 c.next.new.self c.in-None.ensures.steps ix) (c.loop-split.invariant.1 ix)
