@@ -50,6 +50,7 @@ impl Told {
         matches!(self, Told::States)
     }
 
+    // Here and in the next function `true` is a part of a pattern, and switches nothing.
     fn is_first(self) -> bool
         ensures { result ≡ adds_first self }
     {
@@ -160,6 +161,7 @@ fn enter_all(work: &mut [u64], count: usize, cap: usize, rec: &Record, told: Tol
 
 // Notes a new record: whatever the log and the work area hold, no word outside the crate's own columns changes, and where the
 // columns are what the history says, they are so with the record.
+// The work area is lent for writing, so a `Past` is made only for what the record is entered for.
 pub fn note(log: &[u8], work: &mut [u64], count: usize, cap: usize, rec: &Record)
     requires { Bounds log.now work.old count cap × (count < cap) }
     ensures len { length work.new ≡ length work.old }

@@ -184,7 +184,7 @@ pub fn value_before<'a>(past: &Past<'a>, range: u64, index: u64) -> Option<Taken
     value_at(past, range, index.checked_sub(1)?)
 }
 
-// The number of the record that put a value.
+// The number of the record that put a value. As an index it has no `From` into a word: `as` is proved to lose nothing.
 fn number(value: Option<Taken>) -> Option<u64>
     ensures { result ≡ found_by (put value.entry) }
 {

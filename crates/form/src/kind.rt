@@ -21,7 +21,7 @@ pub struct Numbers {
     pub e: bool,
 }
 
-// What a kind's records may have in them.
+// What a kind's records may have in them. It is a row of the kinds' table, two of whose columns are yes or no beside the others.
 #[derive(Clone, Copy)]
 pub struct Shape {
     pub codes: Values,

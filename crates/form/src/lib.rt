@@ -20,7 +20,7 @@ pub enum Flaw {
     Unused,
 }
 
-// Document 01's number of a flaw.
+// Document 01's number of a flaw. A `From` would not say whose number it is.
 pub fn number_of(flaw: Flaw) -> u8
     ensures { result ≡ flaw_number flaw }
 {

@@ -23,5 +23,6 @@ pub fn bucket_by_key(cap: usize, place: &[u8]) -> usize
     ensures { (result ≡ bucket_by_key cap (key_in place.now)) × (result < cap) }
 {
     let k = key(place);
+    // A length has no `From` into a word: `as` is proved to lose nothing.
     bucket_by_two(cap, k.len() as u64, key_number(k))
 }

@@ -52,6 +52,7 @@ pub fn note_as(work: &mut [u64], count: usize, cap: usize, rec: &Record, written
 }
 
 // Takes a record, after those taken, into the columns of `GenerationsRise`.
+// The work area is lent for writing, so a `Past` is made only for asking whether its write counts.
 pub fn note(log: &[u8], work: &mut [u64], count: usize, cap: usize, rec: &Record)
     requires { Bounds log.now work.old count cap × (count < cap) }
     ensures { GenerationsTaken cap (hist log.now count) (decode rec.now) work.old work.new }

@@ -21,6 +21,7 @@ use record::Record;
 use record::field::{a, b, code, d, kind, span_count};
 
 // What a record's write counts as: none that counts, one that has no generation, one at a generation.
+// Three cases, each by its name: an `Option` has two, and one within another would name neither of those without a number.
 #[derive(Clone, Copy)]
 pub enum Written {
     Not,
@@ -53,6 +54,7 @@ pub fn counts_as(past: &Past, rec: &Record) -> Written
 }
 
 // The record with the last write of the key in a place, as a look-up's answer.
+// Its number is an index, which has no `From` into a word: `as` is proved to lose nothing.
 pub fn last_write(past: &Past, place: &[u8]) -> Option<u64>
     ensures { Indexed GenerationsIndexed past.now → result ≡ found_at (last_write_at (key_in place.now) (taken past.now)) }
 {

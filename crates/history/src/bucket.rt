@@ -25,6 +25,7 @@ pub fn mixed_after(m: u64, a: u64) -> u64
 }
 
 // The bucket of a mixed number.
+// The capacity and the bucket are indexes, which have no `From` into a word, nor from one: each `as` is proved to lose nothing.
 pub fn bucket_of(cap: usize, m: u64) -> usize
     requires { (0 < cap) × ((cap ≤ 4096) × (m < 4294967296)) }
     ensures { (result ≡ bucket cap m) × (result < cap) }

@@ -4,6 +4,7 @@ ghost use Rattle.std.specs.Prelude.{◌≡◌, ◌+◌, ◌≤◌, ◌<◌, leng
 ghost use Rattle.history.specs.Columns.{clamp, Put, Entered, EnteredIf};
 
 // The number at a place of the work area, or 0 where it is above top: so a walk goes down whatever the area holds.
+// The word has no `From` into an index: `as` is proved to lose nothing.
 pub fn link(work: &[u64], at: usize, top: usize) -> usize
     requires { at < length work.now }
     ensures { (result ≤ top) × (result ≡ clamp (get_or work.now at 0) top) }
@@ -12,7 +13,7 @@ pub fn link(work: &[u64], at: usize, top: usize) -> usize
     if top < x { 0 } else { x }
 }
 
-// Enters the record at place count into the chain of a bucket.
+// Enters the record at place count into the chain of a bucket. Its number, an index, has no `From` into a word: `as` is proved to lose nothing.
 pub fn enter(work: &mut [u64], heads: usize, links: usize, count: usize, bucket: usize)
     requires { (heads + bucket < links) × ((links + count < length work.old) × (count < 4096)) }
     ensures { Entered work.old work.new heads links count bucket }

@@ -10,6 +10,7 @@ use record::key::{same_key, same_voters};
 use record::named::RangeState;
 
 // The state, which is not the sub-code's where the record is a RangeCreated: that one is Live, whatever its cause.
+// A `From` would say that every record has a state.
 fn state(rec: &Record) -> RangeState
     ensures { result ≡ held_state (decode rec.now) }
 {
@@ -21,6 +22,7 @@ fn state(rec: &Record) -> RangeState
 }
 
 // Whether what a MetaApplied names of a value is the same in two, which is exactly when start, end and voters all are.
+// A derived `==` would need two values built, and their keys lie padded in their places.
 pub fn same_named(a: &Record, b: &Record) -> bool
     ensures answer { result ≡ named_eqb (held_by (decode a.now)) (held_by (decode b.now)) }
     ensures exactly { (result ≡ true) ↔ SameNamed (held_by (decode a.now)) (held_by (decode b.now)) }
@@ -31,6 +33,7 @@ pub fn same_named(a: &Record, b: &Record) -> bool
 }
 
 // Whether two values are the same, which is exactly when start, end, generation, voters and state all are.
+// An `==` of the records would not do: their node and index are no part of the value.
 pub fn same_held(a: &Record, b: &Record) -> bool
     ensures answer { result ≡ held_eqb (held_by (decode a.now)) (held_by (decode b.now)) }
     ensures exactly { (result ≡ true) ↔ Same (held_by (decode a.now)) (held_by (decode b.now)) }

@@ -13,7 +13,7 @@ const END_AT: usize = SPANS_AT + KEY_SIZE;
 
 const OVER_AT: usize = SPANS_AT + SPAN_SIZE;
 
-// The place of a span's start.
+// The place of a span's start. Where the key lies is all that tells it from `end_of`, and the whole of each.
 pub fn start_of(rec: &Record, k: usize) -> &[u8]
     requires { k < 4 }
     ensures { key_in result.now ≡ (span_of k (decode rec.now)).start }
@@ -26,7 +26,7 @@ pub fn start_of(rec: &Record, k: usize) -> &[u8]
     &rec[at..end]
 }
 
-// The place of a span's end.
+// The place of a span's end. Where the key lies is all that tells it from `start_of`, and the whole of each.
 pub fn end_of(rec: &Record, k: usize) -> &[u8]
     requires { k < 4 }
     ensures { key_in result.now ≡ (span_of k (decode rec.now)).end }

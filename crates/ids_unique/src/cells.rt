@@ -18,6 +18,7 @@ pub fn block_below(past: &Past, n: usize) -> usize
 }
 
 // The greatest last among the blocks of the first n records, 0 where there is none: as the words hold it.
+// n is the length of a beginning: 0 is the one before any record, of which there is no word.
 pub fn greatest_last(past: &Past, n: usize) -> u64
     requires { n ≤ past.now.cap }
     ensures { n ≤ past.now.count → Indexed IdsIndexed past.now → result ≡ greatest_of_lasts (blocks_of (hist past.now.log.now n)) }

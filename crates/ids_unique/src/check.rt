@@ -16,6 +16,7 @@ use record::field::{a, b, c, d, e, kind};
 use rules::Fault;
 
 // Whether two grants have the same node, run, first and last.
+// An `==` of the records would compare their index too, and a derived one would need two grants built of those numbers.
 fn same_grant(new: &Record, old: &Record) -> bool
     ensures { result ≡ grant_eqb (grant_by (decode new.now)) (grant_by (decode old.now)) }
 {

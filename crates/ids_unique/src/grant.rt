@@ -7,7 +7,7 @@ ghost use Rattle.history.specs.Pasts.{taken, Indexed};
 use firsts::cells::grant_at;
 use history::past::Past;
 
-// The number of that record, or nothing.
+// The number of that record, or nothing. As an index it has no `From` into a word: `as` is proved to lose nothing.
 pub fn first_grant(past: &Past, index: u64) -> Option<u64>
     ensures { Indexed FirstsIndexed past.now → result ≡ found_at (first_grant_at index (taken past.now)) }
 {

@@ -34,6 +34,7 @@ fn is_full(rec: &Record) -> bool
 }
 
 // The number of the latest record with a block, after one that has one or none.
+// It is written as a word, into which an index has no `From`: `as` is proved to lose nothing.
 fn link_after(past: &Past, block: bool) -> u64
     ensures { Indexed IdsIndexed past.now → result ≡ cond block (past.now.count + 1) (latest_block (taken past.now)) }
 {
@@ -53,6 +54,7 @@ fn last_after(past: &Past, block: bool, last: u64) -> u64
 }
 
 // Takes a record, after those taken, into the columns of `IdsUnique`.
+// The work area is lent for writing, so a `Past` is made only for its two words and whether the grant is a first.
 pub fn note(log: &[u8], work: &mut [u64], count: usize, cap: usize, rec: &Record)
     requires { Bounds log.now work.old count cap × (count < cap) }
     ensures { IdsNoted cap (hist log.now count) (decode rec.now) work.old work.new }

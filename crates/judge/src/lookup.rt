@@ -31,6 +31,7 @@ pub struct Looked {
 }
 
 // The number of the record found, 0 for none.
+// No `From` can say it: both types are std's. Nor has a `u64` one into an index: `as` is proved to lose nothing.
 fn found_number(found: Option<u64>) -> usize
     ensures { result ≡ found_number found }
 {
@@ -58,6 +59,7 @@ fn answer(past: &Past, question: Question, out: &mut [u64]) -> Option<usize>
             let first = first_at_generation(past, range, generation);
             Some(found_number(first))
         }
+        // A count of statements is a word, which has no `From` into an index.
         Question::Statements => Some(statements(past) as usize),
         Question::IsEmpty => Some(usize::from(is_empty(past))),
         Question::HoldersOf(id) => holders_of(past, id, out),
@@ -81,6 +83,7 @@ impl Judge {
         }
         let n = judge.count;
         let cap = judge.capacity;
+        // The capacity that a refused opening leaves: with no bucket to look in, the answer is that of no records.
         if cap == 0 {
             return Looked {
                 outcome: Ok(()),
@@ -104,6 +107,7 @@ impl Judge {
         Looked {
             outcome: Ok(()),
             judge,
+            // The answer is a word, as C is given it, into which an index has no `From`.
             value: value as u64,
         }
     }

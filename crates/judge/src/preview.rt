@@ -39,6 +39,7 @@ impl Judge {
         let cap = self.capacity;
         let opening = self.opening;
         let reports = self.reports;
+        // An array: the library has no heap.
         let mut rows = [0u64; ROWS];
         write_rows(&mut rows, 0, reports);
         match preview(

@@ -23,7 +23,7 @@ pub struct Tested {
     pub judge: Judge,
 }
 
-// Document 01's and 02's number of what a call came to, 0 where it was not refused.
+// Document 01's and 02's number of what a call came to, 0 where it was not refused. No `From` can say it: a `Result` and a number are both std's.
 pub fn number_of(outcome: Result<(), Refusal>) -> u64
     ensures { result ≡ outcome_number outcome }
 {

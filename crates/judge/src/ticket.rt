@@ -19,7 +19,7 @@ pub(crate) fn ticket_of(count: usize, rec: &Record) -> Ticket
     Ticket { count, rec: *rec }
 }
 
-// A ticket of zeros.
+// A ticket of zeros. It has a whole record in it, as every ticket does: the library has no heap to hold one on.
 pub(crate) fn no_ticket() -> Ticket
     ensures { result ≡ no_ticket }
 {

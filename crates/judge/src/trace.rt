@@ -91,6 +91,7 @@ impl Judge {
     {
         let cap = self.capacity;
         let opening = self.opening;
+        // An array: the library has no heap.
         let mut rows = [0u64; ROWS];
         let f = feed(log, work, &mut rows, cap, opening.tenant, trace);
         let reports = read_rows(&rows, 0);

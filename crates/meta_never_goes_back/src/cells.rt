@@ -13,6 +13,8 @@ pub const MARK: u64 = 8192;
 
 // The number of the latest name among the first k records, 0 where there is none: the word without its mark, and 0 where that is
 // above k, so that a walk goes down whatever the area holds.
+// k is the length of a beginning: 0 is the one before any record, of which there is no word. A word has no `From` into an index: `as` is proved to
+// lose nothing.
 #[tactic(auto, unfolding(crate::specs::Columns::name_before))]
 pub fn name_before(past: &Past, k: usize) -> usize
     requires { k ≤ past.now.cap }

@@ -27,7 +27,7 @@ fn name_with(past: &Past, rec: &Record) -> usize
     }
 }
 
-// The word of a record: the number, and the mark.
+// The word of a record: the number, and the mark. The number is an index, which has no `From` into a word: `as` is proved to lose nothing.
 fn word(number: usize, highest: bool) -> u64
     requires { number ≤ 4097 }
     ensures { result ≡ number + cond highest 8192 0 }
@@ -39,7 +39,7 @@ fn word(number: usize, highest: bool) -> u64
     }
 }
 
-// Writes the word of the record at place count.
+// Writes the word of the record at place count. The work area is lent for writing, so a `Past` is made only for the latest name and the mark.
 pub fn note(log: &[u8], work: &mut [u64], count: usize, cap: usize, rec: &Record)
     requires { Bounds log.now work.old count cap × (count < cap) }
     ensures { MetaNoted cap (hist log.now count) (decode rec.now) work.old work.new }

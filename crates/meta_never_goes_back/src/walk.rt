@@ -63,7 +63,7 @@ fn key_case(standing: Option<Taken>, rec: &Record) -> Option<Fault>
 
 // The fault of the won span: piece by piece in key order, each against the name that stands there, up to the first faulty
 // one. A piece begins at the cursor and goes up to the next end of a name. The form is the Rust's: nested loops over the
-// pieces and the names that can stand there, left by the label with the fault.
+// pieces and the names that can stand there, left by the label with the fault. The project's scope names that form.
 fn walk_case(past: &Past, rec: &Record) -> Option<Fault>
     ensures { Indexed MetaIndexed past.now → result ≡ won_fault (decode rec.now) (names (taken past.now)) }
 {

@@ -50,6 +50,7 @@ pub fn end_by(past: &Past, last: usize) -> usize
 }
 
 // The number of the latest record before this one at which its node newly held a range, 0 where there is none: as the words hold it.
+// A word has no `From` into an index: `as` is proved to lose nothing.
 pub fn newly_before(past: &Past, k: usize) -> usize
     requires { (0 < k) × (k ≤ past.now.cap) }
     ensures { (result < k) × (result ≡ before_in past.now.work.now past.now.cap k) }
@@ -59,6 +60,7 @@ pub fn newly_before(past: &Past, k: usize) -> usize
 }
 
 // The number of the latest record up to this one at which its node newly held a range, 0 where there is none.
+// `last` too is 0 for the beginning before any record, of which there is no word.
 pub fn latest_newly(past: &Past, last: usize) -> usize
     requires { last ≤ past.now.cap }
     ensures { (result ≤ last) × (result ≡ newest_in past.now.work.now past.now.cap last) }

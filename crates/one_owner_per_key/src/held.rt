@@ -77,6 +77,7 @@ pub fn held_after<'a>(
 }
 
 // The number of the record over whose span a node holds a range, as of the first top records.
+// As an answer it is a word, into which an index has no `From`.
 pub fn held_by(past: &Past, top: usize, node: NodeId, range: u64) -> Option<u64>
     requires { top ≤ past.now.count }
     ensures { Indexed OwnersIndexed past.now → result ≡ found_at (hold_number node.0 range (hist past.now.log.now top)) }

@@ -21,6 +21,7 @@ use record::named::NodeId;
 use record::{Record, field};
 
 // Which ranges may not be met: those other than one, or those that no start in the record names.
+// These are two questions, each with its number: neither is where the other is missing.
 #[derive(Clone, Copy)]
 pub enum Others {
     Than(u64),

@@ -59,7 +59,7 @@ fn end_with(rec: &Record, count: usize, ended: usize) -> usize
     if is_end(rec) { count + 1 } else { ended }
 }
 
-// The cells of a marked record.
+// The cells of a marked record. They are words, into which the numbers, indexes, have no `From`: `as` is proved to lose nothing.
 fn cells_of(past: &Past, rec: &Record, node: NodeId) -> Cells
     requires { past.now.count < past.now.cap }
     ensures { Indexed OwnersIndexed past.now → (decode rec.now).node ≡ Some node → (result.newly ≡ newly_cell (decode rec.now) (taken past.now)) × (result.ended ≡ ended_cell (decode rec.now) (taken past.now)) }
@@ -90,6 +90,7 @@ fn enter_hold(work: &mut [u64], count: usize, cap: usize, rec: &Record, node: No
 }
 
 // Notes a record as the next: before or after it is written to the log. One without a node leaves everything as it is.
+// The work area is lent for writing, so a `Past` is made only for the cells.
 pub fn note(log: &[u8], work: &mut [u64], count: usize, cap: usize, rec: &Record)
     requires { Bounds log.now work.old count cap × (count < cap) }
     ensures { OwnersNoted cap (hist log.now count) (decode rec.now) work.old work.new }

@@ -10,7 +10,7 @@ pub struct Answer {
     pub value: u64,
 }
 
-// An answer: the value only where nothing is refused.
+// An answer: the value only where nothing is refused. Both are numbers since C is given them: a refusal of 0 is none.
 pub fn answer_of(refusal: u64, value: u64) -> Answer
     ensures { result ≡ answer_of refusal value }
 {

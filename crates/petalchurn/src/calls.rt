@@ -13,7 +13,7 @@ use state_words::{
     write_state,
 };
 
-// Opens a judge over a log and a work area, and writes its words.
+// Opens a judge over a log and a work area, and writes its words. A refusal is a number, since C is given one.
 pub fn petalchurn_open(tenant: u64, log: &[u8], work: &mut [u64], state: &mut [u64]) -> u64
     ensures { OpensWords (record { tenant = tenant }) log.now work.old state.old result work.new state.new }
 {
@@ -29,6 +29,7 @@ pub fn petalchurn_open(tenant: u64, log: &[u8], work: &mut [u64], state: &mut [u
 
 // Takes a record on the words of a judge, or says why not: then everything is as it stood. A check's row, where it has a new fault, the
 // count and the events are written, and no other word of the state. It is small enough to become a part of the two calls that take.
+// C keeps the capacity and the count as words; Rust has no `From` between those and indexes, and `as` is proved to lose nothing.
 pub(crate) fn take_into(state: &mut [u64], log: &mut [u8], work: &mut [u64], rec: &[u8]) -> u64
     requires { is_state state.old ≡ true }
     ensures { PushesWords state.old log.old work.old rec.now result state.new log.new work.new }
@@ -48,7 +49,7 @@ pub(crate) fn take_into(state: &mut [u64], log: &mut [u8], work: &mut [u64], rec
     }
 }
 
-// Takes a record, or says why not: then everything is as it stood.
+// Takes a record, or says why not: then everything is as it stood. A refusal is a number, since C is given one.
 pub fn petalchurn_push(state: &mut [u64], log: &mut [u8], work: &mut [u64], rec: &[u8]) -> u64
     ensures { PushesWords state.old log.old work.old rec.now result state.new log.new work.new }
 {
@@ -58,7 +59,7 @@ pub fn petalchurn_push(state: &mut [u64], log: &mut [u8], work: &mut [u64], rec:
     take_into(state, log, work, rec)
 }
 
-// One of the reports, by its number in printing order.
+// One of the reports, by its number in printing order. A refusal is a number, 0 for none, since C is given one.
 pub fn petalchurn_report(state: &[u64], k: u64, out: &mut [u64]) -> u64
     ensures { ReportsWords state.now k out.old result out.new }
 {
@@ -66,6 +67,7 @@ pub fn petalchurn_report(state: &[u64], k: u64, out: &mut [u64]) -> u64
         return 5;
     }
     let judge = read_state(state);
+    // C gives the number as a word, which has no `From` into an index, but as many bits.
     let reported = judge.report(k as usize);
     let refusal = number_of(reported.outcome);
     if refusal != 0 {

@@ -20,7 +20,7 @@ fn looked(state: &[u64], log: &[u8], work: &[u64], question: Question, out: &mut
     answer_of(number_of(given.outcome), given.value)
 }
 
-// The same for a question that writes no list: it is lent an empty one.
+// The same for a question that writes no list: it is lent an empty one. That is an array of no words: the library has no heap.
 fn looked_bare(state: &[u64], log: &[u8], work: &[u64], question: Question) -> Answer
     ensures { LooksWords question state.now log.now work.now [] [] result }
 {

@@ -28,6 +28,7 @@ fn show<'a>(
     ensures whole { IfOk result (λ rec. rec.now ≡ bytes.now) }
 {
     copy_rows(state, reports);
+    // C keeps both as words, which have no `From` into an index: `as` is proved to lose nothing.
     let cap = state[CAPACITY_WORD] as usize;
     let n = state[COUNT_WORD] as usize;
     let events = state[EVENTS_WORD];
@@ -45,7 +46,7 @@ fn show<'a>(
 }
 
 // Shows what a push of a record would do, and gives a ticket to commit it with: state, log and work area are lent for reading only. Both
-// lists are written also where the record is refused, so their room is tested first.
+// lists are written also where the record is refused, so their room is tested first. A refusal is a number, since C is given one.
 pub fn petalchurn_preview(
     state: &[u64],
     log: &[u8],
@@ -77,12 +78,14 @@ pub fn petalchurn_preview(
 }
 
 // Pushes a ticket's record, unless its count is not the judge's. Nothing rests on where the ticket came from: all is tested anew.
+// A refusal is a number, since C is given one.
 pub fn petalchurn_commit(state: &mut [u64], log: &mut [u8], work: &mut [u64], ticket: &[u8]) -> u64
     ensures { CommitsWords state.old log.old work.old ticket.now result state.new log.new work.new }
 {
     if !is_state(state) {
         return 5;
     }
+    // C keeps capacity and count as words, which have no `From` into an index: `as` is proved to lose nothing.
     let cap = state[CAPACITY_WORD] as usize;
     let n = state[COUNT_WORD];
     if !suits(cap, n as usize, log.len(), work.len()) {

@@ -12,6 +12,7 @@ use rules::Opening;
 pub const TRACE_WORDS: usize = 2 + ROWS;
 
 // The number of the refused record: 0 where nothing is refused.
+// Both are numbers for C: a refusal of 0 is none, and the record's, an index, has no `From` into a word.
 fn refused_at(refusal: u64, at: usize) -> u64
     ensures { result ≡ cond (eqb refusal 0) 0 at }
 {
@@ -29,13 +30,14 @@ fn write_trace(out: &mut [u64], traced: Traced) -> u64
     let judge = traced.judge;
     let reports = judge.reports;
     let refusal = number_of(traced.outcome);
+    // C is given words, into which an index has no `From`.
     out[0] = judge.count as u64;
     out[1] = refused_at(refusal, traced.at);
     write_rows(out, 2, reports);
     refusal
 }
 
-// Opens a judge, pushes a trace's records up to the first refusal, and writes what it came to.
+// Opens a judge, pushes a trace's records up to the first refusal, and writes what it came to. A refusal is a number, since C is given one.
 pub fn petalchurn_trace(
     tenant: u64,
     log: &mut [u8],

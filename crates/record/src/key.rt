@@ -27,6 +27,7 @@ pub fn key_less(a: &[u8], b: &[u8]) -> bool
 }
 
 // Whether the keys in two places are the same.
+// The `==` is that of slices, and not of the places: what stands behind a key in its place is no part of it.
 #[tactic(auto, using(crate::proofs::Keys::same_is))]
 pub fn same_key(a: &[u8], b: &[u8]) -> bool
     ensures { result ≡ key_eqb (key_in a.now) (key_in b.now) }
@@ -34,7 +35,7 @@ pub fn same_key(a: &[u8], b: &[u8]) -> bool
     key(a) == key(b)
 }
 
-// Whether two records have the same voters in the same order.
+// Whether two records have the same voters in the same order. They are read where they lie: no list of them is built that `==` could compare.
 pub fn same_voters(a: &Record, b: &Record) -> bool
     ensures { result ≡ list_eqb (voters_in a.now) (voters_in b.now) }
 {

@@ -28,7 +28,7 @@ pub enum RangeState {
     Subsumed,
 }
 
-// What applying an entry did: kind 3's sub-code.
+// What applying an entry did: kind 3's sub-code. It is the Rust's list, in which `None` is an effect like the others.
 #[derive(Clone, Copy, PartialEq, Eq)]
 pub enum ApplyEffect {
     Applied,

@@ -28,6 +28,7 @@ pub fn write_number(s: &mut [u8], at: usize, width: usize, number: u64)
 {
     let mut rest = number;
     for i in 0..width {
+        // Rust has no `From` that narrows: below 256, `as` loses nothing.
         s[at + i] = (rest % 256) as u8;
         rest /= 256;
     }

@@ -186,6 +186,7 @@ fn of_kind(rt: &impl Print, kind: u8) -> io::Result<()> {
 
 // Lengths, on a record that is sound but for its length, and numbers that no kind has.
 fn lengths(rt: &impl Print) -> io::Result<()> {
+    // Memory is fixed in this program: the longest list, of which each other is a part.
     let mut long = [0u8; RECORD_SIZE + 1];
     long[0] = 5;
     print!(rt; "lengths 0 367 368 369:")?;

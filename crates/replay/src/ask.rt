@@ -5,6 +5,7 @@ use judge::state::Judge;
 use std::io::Read;
 
 // A judge, and whether its answers so far were the stored ones.
+// After a wrong answer too the judge is asked on, since what is stored has to be read to its end.
 #[derive(Clone, Copy)]
 struct Asked {
     judge: Judge,
@@ -55,6 +56,7 @@ fn after_question<R: Read>(file: &mut R, asked: Asked, log: &[u8], work: &[u64])
     let what = read::one(file)?;
     let first = read::eight(file)?;
     let second = read::eight(file)?;
+    // Memory is fixed in this program: a longer answer counts as wrong.
     let mut out = [0u64; 64];
     let Some(question) = question_of(what, first, second) else {
         is_stored(file, &out, None)?;

@@ -5,6 +5,7 @@ use form::{number_of, record_of};
 use std::io::Read;
 
 // Whether the bytes of a case, so many, draw the refusal stored before them. No case has more than the buffer holds.
+// That is fixed, as all memory of this program is.
 fn is_right<R: Read>(file: &mut R, size: u16) -> Option<bool> {
     let refusal = read::one(file)?;
     let mut buffer = [0u8; 512];

@@ -8,7 +8,7 @@ use judge::ticket::Ticket;
 use record::limits::RECORD_SIZE;
 use rules::{CHECKS, Report};
 
-// A judge, and whether its calls were refused and taken as they should be.
+// A judge, and whether its calls were refused and taken as they should be. The judge goes on either way: what comes next is tried with it too.
 #[derive(Clone, Copy)]
 pub struct Taken {
     pub judge: Judge,
@@ -16,6 +16,7 @@ pub struct Taken {
 }
 
 // Whether a ticket has this count and these bytes.
+// Tickets have no `==` of their own: this test alone would use it, and would have to build a second ticket for it.
 fn is_ticket_of(ticket: Ticket, count: usize, bytes: &[u8; RECORD_SIZE]) -> bool {
     ticket.count == count && ticket.rec == *bytes
 }

@@ -13,6 +13,7 @@ pub fn read_full<R: Read>(file: &mut R, buf: &mut [u8]) -> usize
     let mut done = 0usize;
     while done < buf.len() {
         let n = file.read(&mut buf[done..]).unwrap_or(0);
+        // No bytes are how a read says that the file has ended; one that fails ends it too.
         if n == 0 {
             return done;
         }
@@ -39,11 +40,13 @@ pub enum Stop {
 
 // The bytes that an entry begins with.
 pub fn head<const N: usize, R: Read>(file: &mut R) -> Result<[u8; N], Stop> {
+    // All of it is the answer where it is filled: its length is that of the number to be read.
     let mut head = [0u8; N];
     let got = read_full(file, &mut head);
     if got == N {
         return Ok(head);
     }
+    // A number of bytes: where there is none, no entry begins.
     Err(if got == 0 { Stop::End } else { Stop::Broken })
 }
 

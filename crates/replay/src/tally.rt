@@ -40,6 +40,7 @@ pub fn counted<R: Read, F: Fn(&mut R) -> Result<bool, Stop> + Drop>(file: &mut R
         match next(file) {
             Ok(right) => tally.count(right),
             Err(Stop::Broken) => {
+                // No switch: what is counted is what `next` says elsewhere, and an entry that is cut short is not right.
                 tally.count(false);
                 break;
             }

@@ -19,6 +19,7 @@ const LOG: usize = RECORD_SIZE * MOST;
 const WORK: usize = Judge::WORDS * MOST;
 
 // A trace up to some record: the judge, the stored reports, and whether everything came out as stored.
+// Where it did not, the judge still takes the rest.
 #[derive(Clone, Copy)]
 struct Run {
     judge: Judge,
@@ -106,6 +107,7 @@ fn after_records<R: Read>(
 // Whether a trace of this tenant comes out as stored: its records are read, a judge is opened, takes them, and is asked.
 fn is_right<R: Read>(file: &mut R, tenant: u64) -> Option<bool> {
     let count = usize::from(read::two(file)?);
+    // Memory is fixed in this program: these three are for the longest trace.
     let mut buffer = [0u8; LOG];
     let records = read::front(file, &mut buffer, RECORD_SIZE * count)?;
     let mut log = [0u8; LOG];

@@ -34,7 +34,7 @@ pub fn pass() -> Report
     }
 }
 
-// The verdict that a word stands for: 0 is a pass.
+// The verdict that a word stands for: 0 is a pass. No `From` can say it: a word above 255 stands for none.
 fn verdict_of(word: u64) -> Verdict
     requires { word ≤ 255 }
     ensures { result ≡ verdict_in word }
@@ -81,7 +81,7 @@ pub fn read_rows(words: &[u64], at: usize) -> [Report; CHECKS]
     array::from_fn(|k| read_report(words, at + REPORT_WORDS * k))
 }
 
-// A verdict's word, which is a byte.
+// A verdict's word, which is a byte. A `From` would stand in `rules`, where `Verdict` is and nothing is known of words.
 fn kind_word(verdict: Verdict) -> u64
     ensures { (result ≡ kind_word verdict) × (kind_word verdict ≤ 255) }
 {

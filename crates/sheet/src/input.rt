@@ -8,7 +8,7 @@ use std::io::{Error, ErrorKind, Read};
 // How often in a row a call is tried that a signal interrupts before it moves a byte.
 pub const TRIES: u32 = 1000000;
 
-// One read, tried again where it was interrupted. No bytes: the input has ended.
+// One read, tried again where it was interrupted. No bytes: the input has ended. Why it is no one function with `write_some` is said there.
 fn read_some<R: Read>(from: &mut R, buf: &mut [u8]) -> io::Result<usize>
     ensures { ReadsAtMost result buf.new }
 {
@@ -30,6 +30,7 @@ pub fn read_input<R: Read>(from: &mut R, buf: &mut [u8]) -> io::Result<usize>
     let mut done = 0usize;
     while done < buf.len() {
         let n = read_some(from, &mut buf[done..])?;
+        // No bytes are how a read says that the input has ended.
         if n == 0 {
             return Ok(done);
         }

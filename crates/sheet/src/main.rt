@@ -30,6 +30,7 @@ const WORK: usize = 32 * CAPACITY;
 const TRACE: usize = 368 * (CAPACITY + 1);
 
 // Writes the sheet of what a trace gave to the front of the buffer.
+// The two numbers printed are indexes, which have no `From` into a word: `as` is proved to lose nothing.
 #[tactic(auto, unfolding(crate::specs::Printing::sheet_of))]
 fn sheet_of(traced: Traced, out: &mut [u8]) -> usize
     ensures value { result ≡ printed_length (sheet_of traced) out.old }
@@ -48,6 +49,7 @@ fn sheet_of(traced: Traced, out: &mut [u8]) -> usize
 fn judged(trace: &[u8], out: &mut [u8]) -> usize
     ensures { Prints trace.now out.old out.new result }
 {
+    // Memory is fixed in this program: both are for its capacity.
     let mut log = [0u8; LOG];
     let mut work = [0u64; WORK];
     let opening = Opening { tenant: TENANT };
@@ -70,6 +72,7 @@ fn say_stopped(rt: &impl Eprint, stopped: Stopped) {
 // Prints the sheet of a trace.
 #[tactic(auto, using(sheet_text::proofs::Printed::printed_within))]
 fn print_sheet(rt: HostRuntime, trace: &[u8]) {
+    // Memory is fixed in this program: no sheet is longer.
     let mut out = [0u8; SHEET_SIZE];
     let end = judged(trace, &mut out);
     if let Err(stopped) = write_output(&mut rt.stdout(), &out[..end]) {
@@ -77,7 +80,7 @@ fn print_sheet(rt: HostRuntime, trace: &[u8]) {
     }
 }
 
-// Whether an argument was given. One that is longer than the buffer was.
+// Whether an argument was given. One that is longer than the buffer was. One byte is enough, and fixed: what the argument says is not asked.
 fn has_argument(rt: &impl Env) -> bool {
     let mut start = [0u8; 1];
     !matches!(rt.arg(1, &mut start), Err(FillError::NotPresent))
@@ -90,6 +93,7 @@ fn main(rt: HostRuntime) {
         let _ = eprintln!(rt; "usage: sheet < trace");
         return;
     }
+    // Memory is fixed in this program: so much of a trace and no more.
     let mut trace = [0u8; TRACE];
     match read_input(&mut rt.stdin(), &mut trace) {
         Ok(n) => print_sheet(rt, &trace[..n]),

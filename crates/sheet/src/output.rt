@@ -15,6 +15,7 @@ pub struct Stopped {
 
 // One write, tried again where it was interrupted: how many bytes it took, or why it failed. It is a loop like that of `read_some`:
 // one function for both, over a closure, would have to be shown of each call that its number is within the buffer that it captures.
+// It was tried, and that proof did not close.
 fn write_some<W: Write>(to: &mut W, buf: &[u8]) -> io::Result<usize>
     ensures { WritesAtMost result buf.now }
 {
@@ -35,6 +36,7 @@ pub fn write_output<W: Write>(to: &mut W, buf: &[u8]) -> Result<(), Stopped>
     let mut done = 0usize;
     while done < buf.len() {
         let put = write_some(to, &buf[done..]).map_err(|error| Stopped { done, error })?;
+        // No bytes are how a write says that the output takes no more.
         if put == 0 {
             let error = Error::from(ErrorKind::WriteZero);
             return Err(Stopped { done, error });

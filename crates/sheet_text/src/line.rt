@@ -20,7 +20,7 @@ impl Text<'_> {
         self.push_number(e.e4);
     }
 
-    // The line of a check without a fault.
+    // The line of a check without a fault. That it is built like `push_number` is chance: that one writes a number, which is no line.
     fn push_pass(&mut self, check: usize)
         requires { (self.old.end + line_size ≤ length self.old.out.now) × (check < check_count) }
         ensures { Appended line_size self.old self.new (pass_line (name_at check)) }
@@ -68,6 +68,7 @@ impl Text<'_> {
     }
 
     // What the last line says of a refusal: nothing where there was none.
+    // It is told by the number that is printed, which is the one that C is given: 0 for none.
     fn push_refused(&mut self, refusal: u64, position: u64)
         requires { self.old.end + 53 ≤ length self.old.out.now }
         ensures { Appended 53 self.old self.new (refused_text refusal position) }

@@ -23,6 +23,7 @@ impl Text<'_> {
     }
 
     // A number in decimal: its tenth part first, then its last digit.
+    // A digit is below 10: there is no `From` that narrows it to a byte, and `as` loses nothing.
     fn push_digits(&mut self, n: u64)
         requires { self.old.end + length (decimal n) ≤ length self.old.out.now }
         ensures { Appended (length (decimal n)) self.old self.new (decimal n) }
@@ -35,7 +36,7 @@ impl Text<'_> {
         }
     }
 
-    // A number after a space: at most 21 bytes.
+    // A number after a space: at most 21 bytes. That it is built like `push_pass` is chance: that one writes a line, which is no number.
     pub(crate) fn push_number(&mut self, n: u64)
         requires { self.old.end + 21 ≤ length self.old.out.now }
         ensures { Appended 21 self.old self.new (spaced n) }

@@ -16,6 +16,7 @@ use history::walk::{Chain, Taken};
 use record::named::{NodeId, ServerId};
 
 // The server that a node is, by its latest record; as of 0, the beginning before any record, it is its own.
+// A number is the length of a beginning too, so 0 is no number that is missing.
 pub fn server_by(past: &Past, last: usize, node: NodeId) -> ServerId
     requires { last ≤ past.now.cap }
     ensures { result.0 ≡ server_in past.now.work.now past.now.cap last node.0 }
@@ -70,6 +71,7 @@ pub fn is_restated_at(past: &Past, old: &Taken) -> bool
 }
 
 // The number of the latest registering record of the first k; 0, the beginning before any record, where there is none.
+// k is a length too: of the beginning of length 0 there is no word. The word becomes an index by `as`, since Rust has no `From` for it.
 pub fn registering_by(past: &Past, k: usize) -> usize
     requires { k ≤ past.now.cap }
     ensures { (result ≤ k) × (result ≡ registering_in past.now.work.now past.now.cap k) }
@@ -83,6 +85,7 @@ pub fn registering_by(past: &Past, k: usize) -> usize
 }
 
 // The number of the record that names the right range of the split that the record at a place registers.
+// A word has no `From` into an index: `as` is proved to lose nothing.
 pub fn named_by(past: &Past, at: usize) -> usize
     requires { at < past.now.cap }
     ensures { result ≡ named_in past.now.work.now past.now.cap at }

@@ -90,6 +90,7 @@ fn pending_with(past: &Past, rec: &Record, last: usize) -> usize
 }
 
 // The word for what it registers: the record that names the right range, and the latest registering record so far.
+// The numbers are indexes, which have no `From` into a word: `as` is proved to lose nothing.
 fn registered_with(past: &Past, named: Option<usize>) -> u64
     requires { IfSome named (λ k. k ≤ past.now.count + 1) }
     ensures { (k : ℕ) → named ≡ found_at k → result ≡ 8192 * k + cond (is_some named) (past.now.count + 1) (registering_in past.now.work.now past.now.cap past.now.count) }
@@ -120,7 +121,7 @@ fn recording_with(past: &Past, rec: &Record, last: usize) -> Option<usize>
     records.then(|| recorded_bucket(cap, field::a(rec)))
 }
 
-// The cells of a record.
+// The cells of a record. They are words, into which the numbers, indexes, have no `From`: `as` is proved to lose nothing.
 fn cells_of(past: &Past, rec: &Record) -> Cells
     requires { past.now.count < past.now.cap }
     ensures within { (IfSome result.split (λ b. b < past.now.cap)) × (IfSome result.recording (λ b. b < past.now.cap)) }
@@ -162,7 +163,7 @@ fn put_cells(work: &mut [u64], cap: usize, count: usize, cells: &Cells)
     put(work, REGISTERED_BY * cap + count, cells.registered);
 }
 
-// Notes a record as the next: before or after it is written to the log.
+// Notes a record as the next: before or after it is written to the log. The work area is lent for writing, so a `Past` is made only for the cells.
 pub fn note(log: &[u8], work: &mut [u64], count: usize, cap: usize, rec: &Record)
     requires { Bounds log.now work.old count cap × (count < cap) }
     ensures { HalfNoted cap (hist log.now count) (decode rec.now) work.old work.new }

@@ -54,6 +54,7 @@ pub fn uses_up(rec: &Record, split: &Record) -> bool
 }
 
 // The parent of the split that a record registers: kind 1 names it, kind 2 is its own.
+// That it is built like `right_of` is chance: parent and right range have nothing in common.
 pub fn parent_of(rec: &Record) -> u64
     ensures { result ≡ parent_by (decode rec.now) }
 {

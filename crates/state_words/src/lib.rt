@@ -60,7 +60,7 @@ pub fn write_state(state: &mut [u64], judge: Judge)
     write_rows(state, HEADER, judge.reports);
 }
 
-// Copies the words of a judge's reports to the front of a list.
+// Copies the words of a judge's reports to the front of a list. The copying is the slice's own: the function says which words.
 pub fn copy_rows(state: &[u64], out: &mut [u64])
     requires { (length state.now ≡ state_size) × (rows_size ≤ length out.old) }
     ensures { out.new ≡ drop header_size state.now ++ drop rows_size out.old }

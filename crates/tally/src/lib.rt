@@ -37,7 +37,7 @@ pub struct Entered {
     pub judge: Judge,
 }
 
-// The number of a refusal, 0 where there was none.
+// The number of a refusal, 0 where there was none. No `From` can say it: a `Result` and a number are both std's.
 pub fn number_of(refusal: Result<(), Refusal>) -> u64
     ensures { result ≡ refusal_number refusal }
 {
