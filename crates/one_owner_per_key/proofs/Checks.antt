@@ -53,7 +53,7 @@ module _ (p : Past) where
 
 -- ---- what was found
 
-found_case : (n : ℕ) → not (eqb n 0) ≡ is_some (found_at n)
+pub found_case : (n : ℕ) → not (eqb n 0) ≡ is_some (found_at n)
 found_case zero = refl
 found_case (suc n) = ap not (ne_eqb (suc n) 0 (λ q. omega arith))
 

@@ -4,34 +4,27 @@ use mathlib.Core.Bool.{Bool, true, false, ◌&&◌, ◌||◌, or-true}
 use mathlib.Core.List.{List}
 use mathlib.Core.Logic.{inl, inr}
 use Rattle.std.specs.Prelude.{Some}
-use Prim.Native.Nat.{ℕ, suc, ◌+◌, ◌-◌, ◌*◌, ◌≤◌, ◌<◌}
+use Prim.Native.Nat.{ℕ, suc, ◌+◌, ◌*◌, ◌<◌}
 use native.Mathlib.Omega.{arith}
 use native.Mathlib.Nat.{mod-lt, div-lt_iff_lt-mul}
-use lib.ListN.{get_or}
-use lib.Dec.{eqb, leb}
-use native.Mathlib.Decide.{dec_lt}
-use borrow.Author.Tests.{le-leb, leb-true, eqb-true}
+use lib.Dec.{eqb}
+use borrow.Author.Tests.{eqb-true}
 use Rattle.record.specs.declared.named.ApplyEffect.TheVariants.{Took}
 use Rattle.record.specs.Records.{TraceRecord}
 use Rattle.rules.specs.GenerationsRise.{has_effect}
 use Rattle.rules.specs.History.{History, Tells, is_kind, is_by, when}
 use Rattle.rules.specs.OneOwnerPerKey.{is_holding}
 use Rattle.history.specs.Logs.{record_at, hist}
-use Rattle.history.specs.Columns.{Chained, clamp}
 use Rattle.history.proofs.Mixing.{share}
-use Rattle.history.proofs.Chains.{In, Stands, stands_first, stands_next}
-use Rattle.history.proofs.Walks.{look_end, up_to, up_to_below, up_to_above, up_to_outside}
+use Rattle.history.proofs.Chains.{In}
+use Rattle.history.proofs.Walks.{up_to, up_to_outside}
 use Rattle.one_owner_per_key.specs.Numbers.{latest_number, says_hold}
 use Rattle.history.specs.Buckets.{fold, mix, bucket, bucket_by, bucket_by_two}
 use Rattle.one_owner_per_key.specs.Columns.{is_chained, hold_bucket, node_of, by_hold, by_owner}
 use Rattle.record.proofs.Booleans.{never, decide, and_left, and_right, or_right}
 use Rattle.record.proofs.Names.{took_code}
 use Rattle.rules.proofs.Marks.{by_marked}
-use Rattle.one_owner_per_key.proofs.Latest.{passes_at, number_none, at_miss, less_hit, less_miss}
-
--- a walk along the chain of b for the latest of the first top records that passes t stands before i
-abbrev pub Walking : (TraceRecord → History → Bool) → Tells ℕ → ℕ → List ℕ → ℕ → ℕ → Type 0
-Walking t f b log top i = Stands f b log (up_to top (λ n. latest_number t (hist log n))) (latest_number t (hist log top)) i
+use Rattle.one_owner_per_key.proofs.Latest.{passes_at, at_miss}
 
 -- what passes is in the bucket
 pub record Within (t : TraceRecord → History → Bool) (f : Tells ℕ) (b : ℕ) : Type 0 where
@@ -46,32 +39,6 @@ module _ {t : TraceRecord → History → Bool} {f : Tells ℕ} {b : ℕ} (s : W
   outside =
       up_to_outside to top f b log
       (λ k n. elim (decide (passes_at t log k)) [ inl e ↦ absurd (n (s.is (record_at log k) (hist log k) e)) | inr e ↦ at_miss t log k e ])
-
-  passed : {i : ℕ} {r : Bool} → 0 < i → r ≡ passes_at t log (i - 1) → leb i top && r ≡ false → up_to top to i ≡ up_to top to (i - 1)
-  passed {i} {r} o e q =
-      elim (dec_lt top i) [
-        | yes l ↦ up_to_above to top i (omega arith) ∙ sym (up_to_above to top (i - 1) (omega arith))
-        | no l ↦
-            let m : i ≤ top = omega arith in
-            up_to_below to top i m ∙ less_miss t log o (sym e ∙ (rw (le-leb i top m) at q)) ∙ sym (up_to_below to top (i - 1) (omega arith))
-      ]
-
-  pub walk_first : (n : ℕ) {heads links cap at d i : ℕ} {work : List ℕ} → Chained f heads links cap (hist log n) work → top ≤ n → d ≡ b → d < cap
-      → at ≡ heads + d → i ≡ clamp (get_or work at 0) n → Walking t f b log top i
-  walk_first n c m e l a h = stands_first (up_to top to) outside c (rw e at l) (sym (up_to_above to top n m)) (rw e at a) h
-
-  pub walk_next : (n : ℕ) {heads links cap at i j : ℕ} {work : List ℕ} {r : Bool} → Chained f heads links cap (hist log n) work → n ≤ cap → 0 < i → i ≤ n
-      → Walking t f b log top i → r ≡ passes_at t log (i - 1) → leb i top && r ≡ false → at ≡ links + (i - 1) → j ≡ clamp (get_or work at 0) (i - 1)
-      → Walking t f b log top j
-  walk_next n c m o l w e q a h = stands_next (up_to top to) outside c (omega arith) m (w.here o) (w.same ∙ passed o e q) a h
-
-  pub walk_hit : {i : ℕ} {r : Bool} → 0 < i → Walking t f b log top i → r ≡ passes_at t log (i - 1) → leb i top && r ≡ true
-      → i ≡ latest_number t (hist log top)
-  walk_hit {i} {r} o w e q =
-      sym (w.same ∙ up_to_below to top i (leb-true i top (and_left (leb i top) r q)) ∙ less_hit t log o (sym e ∙ and_right (leb i top) r q))
-
-  pub walk_end : {i : ℕ} → i ≡ 0 → Walking t f b log top i → 0 ≡ latest_number t (hist log top)
-  walk_end {i} z w = sym (w.same ∙ up_to_below to top i (omega arith) ∙ look_end (latest_number t) log z ∙ number_none t)
 
 -- ---- the two chains
 

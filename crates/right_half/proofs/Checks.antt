@@ -39,9 +39,6 @@ and_rest false b e f = never e refl
 pub lowest_above : (v u : Bool) {a : Bool} → a ≡ true → false ≡ v && u && not a
 lowest_above v u e = rw e (sym (and-false (v && u)))
 
-pub lowest_unowed : (u a : Bool) {v : Bool} → v ≡ false → false ≡ v && u && not a
-lowest_unowed u a e = rw e
-
 -- one that is owed, and not above, is the lowest where it is not found to be held
 pub lowest_held : (r : Bool) {v u a : Bool} → v ≡ true → u ≡ not r → a ≡ false → r ≡ v && not u && not a
 lowest_held true e h g = rw (e, h, g)

@@ -2,15 +2,15 @@
 -- they said, with the record.
 use mathlib.Core.Path.{◌≡◌, sym, ap, ◌∙◌}
 use mathlib.Core.List.{List, ◌∷◌}
-use Rattle.std.specs.Prelude.{Option, None, Some, IfSome}
+use Rattle.std.specs.Prelude.{IfSome}
 use Prim.Native.Nat.{ℕ, ◌+◌, ◌*◌, ◌≤◌, ◌<◌}
 use native.Mathlib.Omega.{arith}
 use native.Mathlib.Decide.{ℕ_discrete}
 use lib.ListN.{length, get_or}
 use Rattle.record.specs.Records.{TraceRecord}
-use Rattle.rules.specs.History.{History, Tells}
+use Rattle.rules.specs.History.{History}
 use Rattle.history.specs.Logs.{hist}
-use Rattle.history.specs.Columns.{Column, cell_of, Chained, Put, EnteredIf}
+use Rattle.history.specs.Columns.{Column, cell_of, Put, EnteredIf}
 use Rattle.history.proofs.Logs.{hist_length}
 use Rattle.history.proofs.Cells.{cell_new, cell_old}
 use Rattle.history.proofs.Chains.{chained_agrees}

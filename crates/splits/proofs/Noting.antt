@@ -26,6 +26,7 @@ use Rattle.history.proofs.Logs.{hist_none, hist_length, hist_suc, record_bytes}
 use Rattle.history.proofs.Cells.{cell_at}
 use Rattle.history.proofs.Chains.{clamped}
 use Rattle.one_owner_per_key.specs.Columns.{word_by}
+use Rattle.one_owner_per_key.proofs.Checks.{found_case, some_number}
 use Rattle.one_owner_per_key.proofs.Latest.{number_none, number_bound, number_step}
 use Rattle.splits.specs.Numbers.{restated_number, refuses, refused_number, pending_number, is_registering, latest_registering, named_number}
 use Rattle.splits.specs.Columns.{split_bucket, by_split, recorded_bucket, records_by, by_recording, server_cell, restated_cell, refused_cell, pending_cell, registered_cell, registering_in}
@@ -84,11 +85,6 @@ left_is p x (Some y) f =
 
 -- ---- registering
 
--- a record is named where its number is not 0
-pub some_found : (k : ℕ) → is_some (found_at k) ≡ not (eqb k 0)
-some_found zero = refl
-some_found (suc k) = rw eqb-suc-zero
-
 split_cases : (cap : ℕ) (log : List ℕ) (x : TraceRecord) (k : ℕ) → when (is_some (found_at k)) (split_bucket cap (parent_by x) x.b)
     ≡ given (λ s. Some (split_bucket cap s.parent s.index)) (split_as log x k)
 split_cases cap log x zero = refl
@@ -96,7 +92,7 @@ split_cases cap log x (suc k) = rw eqb-suc-zero
 
 module _ (log : List ℕ) (x : TraceRecord) (n : ℕ) {o : Option ℕ} (e : o ≡ found_at (named_number x (hist log n))) where
   named_some : is_some o ≡ is_registering x (hist log n)
-  named_some = ap is_some e ∙ some_found _ ∙ sym (registering_is log x n)
+  named_some = ap is_some e ∙ sym (found_case _) ∙ sym (registering_is log x n)
 
   pub registered_after : {v k : ℕ} → ((m : ℕ) → o ≡ found_at m → v ≡ 8192 * m + cond (is_some o) (n + 1) k) → k ≡ latest_registering (hist log n)
       → v ≡ registered_cell x (hist log n)
@@ -140,11 +136,7 @@ module _ (log : List ℕ) {count cap : ℕ} {work : List ℕ} (col : Column (cel
 
 -- nothing is found where the number is 0
 pub none_found : (p : Past) (o : Option Taken) {t : Bool} → IsFound p o → is_some o ≡ not t → t ≡ eqb (number_of o) 0
-none_found p o {t} f e = sym (not-not t) ∙ ap not (sym e) ∙ go o f
-  where
-    go : (o : Option Taken) → IsFound p o → not (is_some o) ≡ eqb (number_of o) 0
-    go None f = refl
-    go (Some y) f = sym (ne_eqb y.number 0 (λ z. omega (arith, f.some)))
+none_found p o {t} f e = sym (not-not t) ∙ ap not (sym e ∙ some_number p o f) ∙ not-not (eqb (number_of o) 0)
 
 -- what a closure gives, called where a test holds
 pub gives_when : (v : ℕ) (b : Bool) (r : Option ℕ) → is_some r ≡ b → IfSome r (λ k. k ≡ v) → r ≡ when b v

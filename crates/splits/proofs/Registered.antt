@@ -126,9 +126,6 @@ named_range log x n r k =
     (word_cases log n x x.node k)) in
     (omega arith, l)
 
-pub range_of : (log : List ℕ) (t n : ℕ) {m k : ℕ} → t ≤ n → m ≡ k → (0 < k) × (k ≤ t) → (0 < m) × (m ≤ n)
-range_of log t n l e w = (omega (arith, w.0), omega (arith, w.1))
-
 -- ---- what the code makes of it: m names the split of x
 
 module _ (log : List ℕ) (n : ℕ) (x : TraceRecord) {m : ℕ} (e : m ≡ named_number x (hist log n)) (some_named : m ≡ 0 → ⊥) where
