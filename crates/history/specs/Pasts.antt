@@ -27,7 +27,7 @@ pub record IsTaken (p : Past) (x : Taken) : Type 0 where
   pub within : x.number ≤ p.count
   pub bytes : x.record.now ≡ bytes_at (x.number - 1) p.log.now
 
--- what was found is one of the first n records taken, or nothing
+-- what was found is one of the records taken, or nothing
 abbrev pub IsFound : Past → Option Taken → Type 0
 IsFound p r = MatchOption r ⊤ (IsTaken p)
 

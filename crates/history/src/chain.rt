@@ -3,14 +3,20 @@
 ghost use Rattle.std.specs.Prelude.{◌≡◌, ◌+◌, ◌≤◌, ◌<◌, length, get_or, replicate, IfSome};
 ghost use Rattle.history.specs.Columns.{clamp, Put, Entered, EnteredIf};
 
-// The number at a place of the work area, or 0 where it is above top: so a walk goes down whatever the area holds.
+// A record's number, or 0, the beginning before any record, where it is above top: so a walk goes down whatever the area holds.
+pub fn no_later(number: usize, top: usize) -> usize
+    ensures { (result ≤ top) × (result ≡ clamp number top) }
+{
+    if top < number { 0 } else { number }
+}
+
+// The number at a place of the work area, no later than top.
 // The word has no `From` into an index: `as` is proved to lose nothing.
 pub fn link(work: &[u64], at: usize, top: usize) -> usize
     requires { at < length work.now }
     ensures { (result ≤ top) × (result ≡ clamp (get_or work.now at 0) top) }
 {
-    let x = work[at] as usize;
-    if top < x { 0 } else { x }
+    no_later(work[at] as usize, top)
 }
 
 // Enters the record at place count into the chain of a bucket. Its number, an index, has no `From` into a word: `as` is proved to lose nothing.
