@@ -4,6 +4,7 @@ ghost use Rattle.history.specs.Pasts.{IsTaken};
 ghost use Rattle.history.specs.Places.{latest_name};
 ghost use Rattle.meta_never_goes_back.specs.Columns.{name_before};
 
+use history::chain::no_later;
 use history::past::Past;
 use history::place::LATEST_NAME;
 use history::walk::Taken;
@@ -11,8 +12,7 @@ use history::walk::Taken;
 // The mark. Numbers of records are below it.
 pub const MARK: u64 = 8192;
 
-// The number of the latest name among the first k records, 0 where there is none: the word without its mark, and 0 where that is
-// above k, so that a walk goes down whatever the area holds.
+// The number of the latest name among the first k records, 0 where there is none: the word without its mark, no later than k.
 // k is the length of a beginning: 0 is the one before any record, of which there is no word. A word has no `From` into an index: `as` is proved to
 // lose nothing.
 #[tactic(auto, unfolding(crate::specs::Columns::name_before))]
@@ -24,8 +24,7 @@ pub fn name_before(past: &Past, k: usize) -> usize
     if k == 0 {
         return 0;
     }
-    let number = (past.word(LATEST_NAME, k - 1) % MARK) as usize;
-    if k < number { 0 } else { number }
+    no_later((past.word(LATEST_NAME, k - 1) % MARK) as usize, k)
 }
 
 // Whether a name is marked: it surpasses every earlier one.

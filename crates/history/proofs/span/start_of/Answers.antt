@@ -1,12 +1,29 @@
--- A span that is there lies at its offset; one that is not has the empty key.
-use mathlib.Core.Path.{sym}
+-- A span that is there has its start at its offset; one that is not has the empty key.
+use mathlib.Core.Path.{◌≡◌, sym, ap, ◌∙◌}
+use mathlib.Core.List.{List}
+use mathlib.Core.Logic.{inl, inr}
+use Prim.Native.Nat.{ℕ, ◌+◌, ◌*◌}
 use native.Mathlib.Omega.{arith}
+use lib.Dec.{leb}
+use lib.ListN.{length}
+use borrow.Author.Tests.{leb-true, leb-false}
+use Rattle.record.specs.Keys.{key_in}
+use Rattle.record.specs.Numbers.{part}
+use Rattle.record.specs.Records.{decode}
+use Rattle.record.proofs.Booleans.{decide}
 use Rattle.record.proofs.Records.{span_start}
 use Rattle.rules.proofs.Spans.{start_lacking}
 use Rattle.history.proofs.span.start_of.Goals as goal
 
-pub returns-then-span_count-k : goal.returns-then-span_count-k
-returns-then-span_count-k c = start_lacking c.args.rec.now c.args.k (omega (arith, c.span_count.ensures.0))
-
 pub returns : goal.returns
-returns c = sym (span_start _ c.args.k c.args.rec.now (omega (arith, c.span_count.ensures.0)))
+returns c =
+    let s = c.args.rec.now in
+    let k = c.args.k in
+    let n = length (decode s).spans in
+    elim (decide (leb n k)) [
+      | inl t ↦ ap key_in (c.key_at.ensures ∙ rw t) ∙ start_lacking s k (leb-true n k t)
+      | inr f ↦
+          let low : 112 + 64 * k + 0 ≡ 112 + 64 * k = omega arith in
+          let high : 144 + 64 * k + 0 ≡ 144 + 64 * k = omega arith in
+          ap key_in (c.key_at.ensures ∙ rw (f, low, high)) ∙ sym (span_start _ k s (omega (arith, leb-false n k f)))
+    ]
