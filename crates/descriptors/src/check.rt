@@ -1,4 +1,5 @@
 // Agreement: the case of a new record, where there was none before. Only what the record touches is judged.
+// Kinds are numbers, as the project's scope numbers them and the definitions speak of them (`is_kind`): an enum would be read back into them.
 ghost use Rattle.std.specs.Prelude.{◌≡◌, false, [], ◌∷◌, leb, ltb, None};
 ghost use Rattle.record.specs.Records.{decode};
 ghost use Rattle.rules.specs.History.{holds, is_some, earliest_of, any_of};

@@ -1,5 +1,6 @@
 // What a new record leaves in the columns of `Descriptors`: it is entered into the chains that it belongs to, and its word has the
 // counts after it.
+// Kinds are numbers, as the project's scope numbers them and the definitions speak of them (`is_kind`): an enum would be read back into them.
 ghost use Rattle.std.specs.Prelude.{◌≡◌, cond, ◌∷◌, ℕ, ◌+◌, ◌*◌, ◌≤◌, ◌<◌, length, get_or, MatchOption, ⊤};
 ghost use Rattle.record.specs.Records.{decode};
 ghost use Rattle.rules.specs.History.{is_some};
@@ -29,7 +30,8 @@ pub struct Added {
     pub rises: bool,
 }
 
-// What a new record is to be entered for: it puts, with what it adds where no value stood at its place, or it states.
+// What a new record is to be entered for: it puts, with what it adds where no value stood at its place, or it states. Three cases, of which
+// one has a value: an option in an option would not say which is which.
 #[derive(Clone, Copy)]
 pub enum Told {
     Puts(Option<Added>),

@@ -1,4 +1,5 @@
 // What a record does: the applied index that it is read at, and whether it puts its value, states it, or neither.
+// Kinds are numbers, as the project's scope numbers them and the definitions speak of them (`is_kind`): an enum would be read back into them.
 ghost use Rattle.std.specs.Prelude.{◌≡◌, ◌&&◌, ◌||◌, eqb, leb};
 ghost use Rattle.record.specs.Records.{decode};
 ghost use Rattle.rules.specs.History.{is_kind, is_by, by_node, holds};
@@ -14,6 +15,7 @@ use record::Record;
 use record::field::{a, b, c, code, kind, node};
 use record::named::{NodeId, RangeCause};
 
+// Three cases, of which two have an index: no option says which of the two.
 #[derive(Clone, Copy)]
 pub enum Role {
     Puts(u64),
@@ -21,6 +23,7 @@ pub enum Role {
     Neither,
 }
 
+// By the number alone, as the definitions mark a record.
 fn is_by(n: Option<NodeId>, id: u32) -> bool
     ensures { result ≡ by_node id n }
 {

@@ -1,4 +1,5 @@
 // Events: whether a record continues one, whether it has one to continue, and how many there are with it.
+// Kinds are numbers, as the project's scope numbers them and the definitions speak of them (`is_kind`): an enum would be read back into them.
 #![tactic(auto)]
 
 ghost use Rattle.std.specs.Prelude.{◌≡◌, ◌*◌, ◌≤◌, length};

@@ -1,4 +1,5 @@
 // The two walks along the chain of the firsts: the first grant at an index, and whether a write counted.
+// Kinds are numbers, as the project's scope numbers them and the definitions speak of them (`is_kind`): an enum would be read back into them.
 ghost use Rattle.std.specs.Prelude.{◌≡◌, ◌&&◌, eqb};
 ghost use Rattle.record.specs.Records.{decode};
 ghost use Rattle.rules.specs.History.{is_kind, any_of};

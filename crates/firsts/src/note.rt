@@ -10,7 +10,7 @@ use history::place::{FIRST_HEADS, FIRST_LINKS};
 use record::Record;
 use record::field::{a, b};
 
-// Enters a record with a first grant, after the count records taken.
+// Enters a record with a first grant, after the count records taken. The bucket is all that tells it from `enter_write`, and the whole of each.
 pub fn enter_grant(work: &mut [u64], count: usize, cap: usize, rec: &Record)
     requires { (32 * cap ≤ length work.old) × ((count < cap) × (cap ≤ 4096)) }
     ensures { FirstEntered first_grant cap count (decode rec.now) work.old work.new }

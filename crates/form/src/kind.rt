@@ -1,4 +1,5 @@
 // The kinds of records: which values and which places each of the twelve uses.
+// Kinds are numbers, as the project's scope numbers them and the definitions speak of them (`is_kind`): an enum would be read back into them.
 ghost use Rattle.std.specs.Prelude.{◌≡◌, Some};
 ghost use Rattle.form.specs.KindTable.{plain, shape_of};
 

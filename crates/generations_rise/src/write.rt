@@ -1,5 +1,6 @@
 // The writes that count: the first Applied write with a key at each range and index, at the generation of `before`; and a
 // key's last one.
+// Kinds are numbers, as the project's scope numbers them and the definitions speak of them (`is_kind`): an enum would be read back into them.
 ghost use Rattle.std.specs.Prelude.{◌≡◌, false, ◌&&◌, leb, length};
 ghost use Rattle.record.specs.Keys.{key_in};
 ghost use Rattle.record.specs.Records.{decode};

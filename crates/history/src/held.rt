@@ -1,4 +1,5 @@
 // Two values compared where they lie in their records: no span and no voter is copied.
+// Kinds are numbers, as the project's scope numbers them and the definitions speak of them (`is_kind`): an enum would be read back into them.
 ghost use Rattle.std.specs.Prelude.{◌≡◌, true, ◌↔◌};
 ghost use Rattle.record.specs.Records.{decode};
 ghost use Rattle.rules.specs.Descriptors.{held_state, held_by, held_eqb, Same, named_eqb, SameNamed};

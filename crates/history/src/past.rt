@@ -63,7 +63,8 @@ impl<'a> Past<'a> {
     }
 
     // A record's number in a column, as of the record with a number; 0 as of the beginning before any.
-    // A number is also the length of the beginning that ends with its record: 0 is such a length, and no number that is missing.
+    // A number is also the length of the beginning that ends with its record, and the lent words hold 0 for the one before any record; `numbered`
+    // makes it `None`.
     pub fn number_as_of(&self, column: usize, last: usize) -> usize
         requires { (column < 32) × (last ≤ self.now.cap) }
         ensures { (result ≤ last) × (result ≡ number_in (column * self.now.cap) self.now.work.now last) }

@@ -12,7 +12,8 @@ pub struct Taken<'a> {
     pub record: &'a Record,
 }
 
-// What is left of a walk along a chain: the number of the next record, 0 where it is over, and the column of the links.
+// What is left of a walk along a chain: the number of the next record, 0 where it is over, as the lent words hold it, and the column of the
+// links.
 #[derive(Clone, Copy)]
 pub struct Chain<'a> {
     pub log: &'a [u8],

@@ -1,4 +1,5 @@
 // The meta check of a new record: its descriptor, then the keys that it won.
+// Kinds are numbers, as the project's scope numbers them and the definitions speak of them (`is_kind`): an enum would be read back into them.
 ghost use Rattle.std.specs.Prelude.{◌≡◌};
 ghost use Rattle.record.specs.Records.{decode};
 ghost use Rattle.rules.specs.declared.Verdict.TheVariants.{Pass};

@@ -10,6 +10,7 @@ use history::walk::Taken;
 #[derive(Clone, Copy)]
 pub struct Names<'a> {
     pub past: Past<'a>,
+    // 0 where it is over, as the lent words hold it.
     pub next: usize,
     ghost within: { next ≤ past.count },
 }

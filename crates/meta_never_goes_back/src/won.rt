@@ -1,4 +1,5 @@
 // The won span of a record, its second, where it lies.
+// Kinds are numbers, as the project's scope numbers them and the definitions speak of them (`is_kind`): an enum would be read back into them.
 ghost use Rattle.std.specs.Prelude.{◌≡◌};
 ghost use Rattle.record.specs.Records.{decode};
 ghost use Rattle.rules.specs.MetaNeverGoesBack.{is_won};

@@ -8,7 +8,7 @@ use crate::limits::{SPAN_LIMIT, VOTER_LIMIT, VOTERS_AT};
 use crate::named::NodeId;
 use crate::number::{u32_at, u64_at};
 
-// The kind.
+// The kind: a number, as the project's scope numbers the kinds and the definitions speak of them; form refuses what is none of them.
 #[tactic(auto, unfolding(crate::specs::Records::decode))]
 pub fn kind(rec: &Record) -> u8
     ensures { result ≡ (decode rec.now).kind }

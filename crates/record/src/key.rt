@@ -35,7 +35,8 @@ pub fn same_key(a: &[u8], b: &[u8]) -> bool
     key(a) == key(b)
 }
 
-// Whether two records have the same voters in the same order. They are read where they lie: no list of them is built that `==` could compare.
+// Whether two records have the same voters in the same order. Number by number, as the definition compares
+// them: that equal bytes are equal numbers, and others are not, would be a law that nothing else needs.
 pub fn same_voters(a: &Record, b: &Record) -> bool
     ensures { result ≡ list_eqb (voters_in a.now) (voters_in b.now) }
 {

@@ -28,7 +28,7 @@ pub fn write_number(s: &mut [u8], at: usize, width: usize, number: u64)
 {
     let mut rest = number;
     for i in 0..width {
-        // Rust has no `From` that narrows: below 256, `as` loses nothing.
+        // Rust has no `From` that narrows: below 256, `as` loses nothing. The width is a parameter, so `to_le_bytes` would give too many bytes.
         s[at + i] = (rest % 256) as u8;
         rest /= 256;
     }

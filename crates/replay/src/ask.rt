@@ -44,6 +44,7 @@ fn laid_out(question: Question, value: u64, out: &mut [u64; 64]) -> u64 {
 fn is_stored<R: Read>(file: &mut R, out: &[u64; 64], words: Option<u64>) -> Option<bool> {
     let count = read::two(file)?;
     let mut same = words == Some(u64::from(count));
+    // Each word is read, also past those that are held to it: so the turns are those of the file.
     for i in 0..count {
         let word = read::eight(file)?;
         same = same && out.get(usize::from(i)) == Some(&word);
