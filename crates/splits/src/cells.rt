@@ -6,7 +6,8 @@ ghost use Rattle.history.specs.Pasts.{IsTaken, IsFound, number_of, Begins};
 ghost use Rattle.history.specs.Places.{server_at, restated_at, refused_at, pending_at, split_heads, split_links, recorded_heads, recorded_links};
 ghost use Rattle.splits.specs.Columns.{server_in, registering_in, named_in, split_bucket, recorded_bucket};
 
-use history::bucket::{bucket_of, mixed, mixed_after};
+use history::bucket::{bucket_by, bucket_by_two};
+use history::chain::no_later;
 use history::past::Past;
 use history::place::{
     PENDING_AT, RECORDED_HEADS, RECORDED_LINKS, REFUSED_AT, REGISTERED_BY, RESTATED_AT, SERVER_AT,
@@ -79,8 +80,7 @@ pub fn registering_by(past: &Past, k: usize) -> usize
     if k == 0 {
         0
     } else {
-        let latest = (past.word(REGISTERED_BY, k - 1) % 8192) as usize;
-        if k < latest { 0 } else { latest }
+        no_later((past.word(REGISTERED_BY, k - 1) % 8192) as usize, k)
     }
 }
 
@@ -93,14 +93,6 @@ pub fn named_by(past: &Past, at: usize) -> usize
     (past.word(REGISTERED_BY, at) / 8192) as usize
 }
 
-// The bucket of a parent and an index.
-pub fn split_bucket(cap: usize, parent: u64, index: u64) -> usize
-    requires { (0 < cap) × (cap ≤ 4096) }
-    ensures { (result ≡ split_bucket cap parent index) × (result < cap) }
-{
-    bucket_of(cap, mixed_after(mixed(parent), index))
-}
-
 // The records that register a split, chained by its parent and index, from the newest on.
 pub fn split_chain<'a>(past: &Past<'a>, parent: u64, index: u64) -> Chain<'a>
     ensures { Begins past.now split_heads split_links (split_bucket past.now.cap parent index) result }
@@ -108,25 +100,13 @@ pub fn split_chain<'a>(past: &Past<'a>, parent: u64, index: u64) -> Chain<'a>
     past.chain(
         SPLIT_HEADS,
         SPLIT_LINKS,
-        split_bucket(past.cap, parent, index),
+        bucket_by_two(past.cap, parent, index),
     )
-}
-
-// The bucket of a range's recorded indexes.
-pub fn recorded_bucket(cap: usize, range: u64) -> usize
-    requires { (0 < cap) × (cap ≤ 4096) }
-    ensures { (result ≡ recorded_bucket cap range) × (result < cap) }
-{
-    bucket_of(cap, mixed(range))
 }
 
 // The records that record an index, chained by their range, from the newest on.
 pub fn recorded_chain<'a>(past: &Past<'a>, range: u64) -> Chain<'a>
     ensures { Begins past.now recorded_heads recorded_links (recorded_bucket past.now.cap range) result }
 {
-    past.chain(
-        RECORDED_HEADS,
-        RECORDED_LINKS,
-        recorded_bucket(past.cap, range),
-    )
+    past.chain(RECORDED_HEADS, RECORDED_LINKS, bucket_by(past.cap, range))
 }

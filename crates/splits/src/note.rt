@@ -14,11 +14,9 @@ ghost use Rattle.splits.specs.Numbers.{pending_number};
 ghost use Rattle.splits.specs.Columns.{Known, HalfNoted, Celled, CellsPut, server_in, registering_in, split_bucket, recorded_bucket};
 ghost use Rattle.splits.specs.Splits.{parent_by};
 
-use crate::cells::{
-    pending_by, recorded_bucket, refused_by, registering_by, restatement_by, server_by,
-    split_bucket,
-};
+use crate::cells::{pending_by, refused_by, registering_by, restatement_by, server_by};
 use crate::split::{parent_of, registers, uses_up};
+use history::bucket::{bucket_by, bucket_by_two};
 use history::chain::{enter_if, put};
 use history::past::Past;
 use history::place::{
@@ -107,7 +105,7 @@ fn split_with(past: &Past, rec: &Record, named: Option<usize>) -> Option<usize>
     ensures is { result ≡ when (is_some named) (split_bucket past.now.cap (parent_by (decode rec.now)) (decode rec.now).b) }
 {
     let cap = past.cap;
-    named.map(|_| split_bucket(cap, parent_of(rec), field::b(rec)))
+    named.map(|_| bucket_by_two(cap, parent_of(rec), field::b(rec)))
 }
 
 // The bucket of a record that records an index: a RangeDescriptor of a node that is not restated.
@@ -118,7 +116,7 @@ fn recording_with(past: &Past, rec: &Record, last: usize) -> Option<usize>
 {
     let records = (field::kind(rec) == 2) & restatement_by(past, last).is_none();
     let cap = past.cap;
-    records.then(|| recorded_bucket(cap, field::a(rec)))
+    records.then(|| bucket_by(cap, field::a(rec)))
 }
 
 // The cells of a record. They are words, into which the numbers, indexes, have no `From`: `as` is proved to lose nothing.
