@@ -47,7 +47,7 @@ pub fn refused_by(past: &Past, last: usize) -> usize
 }
 
 // A node's pending RangeSplit, by its latest record.
-pub fn pending_by<'a>(past: &Past<'a>, last: usize) -> Option<Taken<'a>>
+pub fn pending_of<'a>(past: &Past<'a>, last: usize) -> Option<Taken<'a>>
     requires { last ≤ past.now.count }
     ensures found { IsFound past.now result }
     ensures is { number_of result ≡ number_in (pending_at * past.now.cap) past.now.work.now last }

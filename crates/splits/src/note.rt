@@ -14,7 +14,7 @@ ghost use Rattle.splits.specs.Numbers.{pending_number};
 ghost use Rattle.splits.specs.Columns.{Known, HalfNoted, Celled, CellsPut, server_in, registering_in, split_bucket, recorded_bucket};
 ghost use Rattle.splits.specs.Splits.{parent_by};
 
-use crate::cells::{pending_by, refused_by, registering_by, restatement_by, server_by};
+use crate::cells::{pending_of, refused_by, registering_by, restatement_by, server_by};
 use crate::split::{parent_of, registers, uses_up};
 use history::bucket::{bucket_by, bucket_by_two};
 use history::chain::{enter_if, put};
@@ -81,7 +81,7 @@ fn pending_with(past: &Past, rec: &Record, last: usize) -> usize
     match field::kind(rec) {
         7 => past.count + 1,
         6 | 10 => 0,
-        _ => pending_by(past, last)
+        _ => pending_of(past, last)
             .filter(|split| !uses_up(rec, split.record))
             .map_or(0, |split| split.number),
     }
