@@ -8,7 +8,7 @@ ghost use Rattle.history.specs.Pasts.{taken, Indexed, IsTaken, IsFound, number_o
 ghost use Rattle.one_owner_per_key.specs.Numbers.{latest_number, latest_by};
 ghost use Rattle.splits.specs.Numbers.{refused_number};
 ghost use Rattle.splits.specs.Columns.{Known};
-ghost use Rattle.splits.specs.Walk.{IsSplit};
+ghost use Rattle.splits.specs.Walk.{taken_of};
 ghost use Rattle.debts.specs.Walk.{cancel_number, asks_kind, asks, applying, comes, above, reached, has_part, applied_first, owes_first, owes_split};
 ghost use Rattle.splits.specs.Splits.{parent_by};
 
@@ -198,9 +198,8 @@ pub fn owes_first(past: &Past, top: usize, node: NodeId, rec: &Record) -> bool
 }
 
 // Whether a node owes by a split; cancel: the latest record that cancels its right range.
-#[tactic(auto, using(crate::proofs::Comings::owes_coming, crate::proofs::Comings::owes_cancelled, crate::proofs::Comings::owes_at_first))]
 pub fn owes_by(past: &Past, split: &Split, node: NodeId, cancel: usize) -> bool
-    requires { IsSplit past.now split.now }
+    requires { IsTaken past.now (taken_of split.now) }
     ensures { Indexed Known past.now → result ≡ owes_split past.now.log.now past.now.count node.0 (split.now.number - 1) cancel }
 {
     latest_coming(past, cancel.max(split.number), node, split.record).is_some()
