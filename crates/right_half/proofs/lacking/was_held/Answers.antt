@@ -11,7 +11,7 @@ pub returns-then-refused-restated : goal.returns-then-refused-restated
 returns-then-refused-restated c =
     let a = c.args in
     let p = a.past.now in
-    let k = a.restated.now.number in
+    let k = a.restated in
     λ ix ek ef is. with_held a.node.0 a.range p.log.now p.count ek ef is c.if-refused-restated.true
     (found_held a.node.0 a.range (hist p.log.now (k - 1)) (c.held_by.ensures ix.0) ∙ sym c.is_some.ensures)
 
@@ -19,5 +19,5 @@ pub returns-else-refused-restated : goal.returns-else-refused-restated
 returns-else-refused-restated c =
     let a = c.args in
     let p = a.past.now in
-    λ ix ek ef is. le-ltb a.refused a.restated.now.number c.if-refused-restated.false
+    λ ix ek ef is. le-ltb a.refused a.restated c.if-refused-restated.false
     ∙ with_dropped a.node.0 a.range p.log.now p.count ek ef is c.if-refused-restated.false
