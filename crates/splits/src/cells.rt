@@ -1,5 +1,6 @@
 // The readers of this crate's columns: a node as of its latest record, what a record registers, and the two chains. Whatever a
-// column holds, a number that is read is no later than what it is read at.
+// column holds, a number that is read is no later than what it is read at. 0 stands in the lent words for the beginning before any
+// record, and `numbered` makes it `None`.
 ghost use Rattle.std.specs.Prelude.{◌≡◌, not, ◌+◌, ◌-◌, ◌*◌, ◌≤◌, ◌<◌, eqb, get_or};
 ghost use Rattle.history.specs.Columns.{number_in};
 ghost use Rattle.history.specs.Pasts.{IsTaken, IsFound, number_of, Begins};
@@ -16,8 +17,7 @@ use history::place::{
 use history::walk::{Chain, Taken};
 use record::named::{NodeId, ServerId};
 
-// The server that a node is, by its latest record; as of 0, the beginning before any record, it is its own.
-// A number is the length of a beginning too, so 0 is no number that is missing.
+// The server that a node is, by its latest record; as of 0, the beginning before any record, of which there is no word, it is its own.
 pub fn server_by(past: &Past, last: usize, node: NodeId) -> ServerId
     requires { last ≤ past.now.cap }
     ensures { result.0 ≡ server_in past.now.work.now past.now.cap last node.0 }
