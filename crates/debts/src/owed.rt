@@ -1,5 +1,6 @@
 // What a node owes: for each registered split the latest record at which the node came to owe its right range, against
 // the latest that cancelled it.
+// Kinds and sub-codes are numbers, as the project's scope numbers them and the definitions speak of them.
 ghost use Rattle.std.specs.Prelude.{◌≡◌, not, ◌&&◌, ◌-◌, ◌≤◌, eqb, leb};
 ghost use Rattle.record.specs.Records.{decode};
 ghost use Rattle.rules.specs.History.{is_by};
@@ -23,6 +24,7 @@ use splits::split::{Split, has_taken, is_voter, parent_of};
 
 // Which records of a node and a range are looked for: a RangeRemoved, a RangeSplit at an index, a RangeDescriptor that
 // records an index, any of the kinds that can apply a split.
+// Each with its number is a question, no option; and a closure could not be required to be called only at records taken.
 #[derive(Clone, Copy)]
 pub enum Asked {
     Removed,
@@ -104,6 +106,7 @@ fn is_coming(past: &Past, old: &Taken, node: NodeId, split: &Record) -> bool
 }
 
 // The latest record above a floor at which a node comes to owe by its own application of the split that a record registered.
+// Not one with `latest_asked`: what the two ask of a record needs it to be one taken, which a closure's contract would have to ask again.
 fn latest_coming<'a>(
     past: &Past<'a>,
     floor: usize,

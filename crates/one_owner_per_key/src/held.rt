@@ -1,5 +1,6 @@
 // What a node holds: the latest record of kinds 1, 2 and 9 of the node and the range, against the node's latest crash
 // or refusal. Look-backs are as of the first `top` of the records taken.
+// Kinds and sub-codes are numbers, as the project's scope numbers them and the definitions speak of them.
 ghost use Rattle.std.specs.Prelude.{◌≡◌, ◌≤◌};
 ghost use Rattle.record.specs.Records.{decode};
 ghost use Rattle.rules.specs.History.{is_by};

@@ -1,5 +1,6 @@
 // What a record leaves in this crate's columns: its node's state with it, what it registers, and its places in the two
 // chains.
+// Kinds and sub-codes are numbers, as the project's scope numbers them and the definitions speak of them.
 ghost use Rattle.std.specs.Prelude.{◌≡◌, true, cond, not, ◌&&◌, ◌∷◌, ℕ, ◌+◌, ◌*◌, ◌≤◌, ◌<◌, length, eqb, IfSome};
 ghost use Rattle.record.specs.Records.{decode};
 ghost use Rattle.rules.specs.Answers.{found_at};
@@ -119,7 +120,7 @@ fn recording_with(past: &Past, rec: &Record, last: usize) -> Option<usize>
     records.then(|| bucket_by(cap, field::a(rec)))
 }
 
-// The cells of a record. They are words, into which the numbers, indexes, have no `From`: `as` is proved to lose nothing.
+// The cells of a record, which are words. Three are numbers, indexes, which have no `From` into a word: each `as` is proved to lose nothing.
 fn cells_of(past: &Past, rec: &Record) -> Cells
     requires { past.now.count < past.now.cap }
     ensures within { (IfSome result.split (λ b. b < past.now.cap)) × (IfSome result.recording (λ b. b < past.now.cap)) }

@@ -1,4 +1,5 @@
 // Splits: who registers one, with which right range and voters, and the record that registered (parent, index).
+// Kinds and sub-codes are numbers, as the project's scope numbers them and the definitions speak of them.
 ghost use Rattle.std.specs.Prelude.{◌≡◌, ◌&&◌, ℕ, ◌+◌, ◌-◌, ◌≤◌, eqb, Some, IfSome};
 ghost use Rattle.std.specs.Option.{option_map};
 ghost use Rattle.record.specs.declared.named.ApplyEffect.TheVariants.{Took};
