@@ -4,7 +4,6 @@ use lib.Dec.{eqb}
 use Rattle.record.specs.declared.named.ServerId.{ServerId}
 use Rattle.record.specs.Records.{decode}
 use Rattle.rules.specs.History.{any_of}
-use Rattle.history.specs.Pasts.{taken}
 use Rattle.one_owner_per_key.proofs.Checks.{held_found}
 use Rattle.right_half.proofs.Checks.{lowest_held}
 use Rattle.right_half.proofs.check.is_lowest.Goals as goal

@@ -2,7 +2,6 @@
 use mathlib.Core.Path.{sym, ◌∙◌}
 use borrow.Author.Tests.{le-ltb}
 use Prim.Native.Nat.{◌-◌}
-use Rattle.history.specs.Logs.{hist}
 use Rattle.one_owner_per_key.proofs.Checks.{held_found}
 use Rattle.right_half.proofs.Lacks.{with_dropped, with_held}
 use Rattle.right_half.proofs.lacking.was_held.Goals as goal
