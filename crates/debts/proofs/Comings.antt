@@ -13,7 +13,7 @@ use Rattle.record.specs.Records.{TraceRecord, decode}
 use Rattle.rules.specs.History.{History, is_kind, is_by, is_some, any_of}
 use Rattle.rules.specs.RightHalf.{server_of, is_restated, cancels}
 use Rattle.history.specs.Logs.{record_at, hist}
-use Rattle.history.specs.Pasts.{taken, IsFound, number_of}
+use Rattle.history.specs.Pasts.{taken, IsTaken, IsFound, number_of}
 use Rattle.history.specs.declared.past.Past.{Past}
 use Rattle.history.specs.declared.walk.Taken.{Taken}
 use Rattle.history.proofs.Logs.{hist_none, record_bytes}
@@ -24,9 +24,7 @@ use Rattle.one_owner_per_key.proofs.Checks.{some_number}
 use Rattle.debts.specs.declared.owed.Asked.TheVariants.{Removed, Traced, Recording}
 use Rattle.splits.specs.Numbers.{refuses, refused_number}
 use Rattle.debts.specs.Walk.{cancel_number, asks, comes, above, reached, traced, applied_first, owes_first, owes_split}
-use Rattle.splits.specs.declared.split.Split.{Split}
 use Rattle.splits.specs.Splits.{parent_by}
-use Rattle.splits.specs.Walk.{IsSplit}
 
 -- ---- of two tests
 
@@ -141,8 +139,8 @@ module _ (log : List ℕ) (t node : ℕ) (y : TraceRecord) {b : Bool} (e : b ≡
 
 pub ruleset owes_first_cases = (owes_first_voter, owes_first_none)
 
--- o: the latest coming above the later of the cancel c and the registering
-module _ {p : Past} {s : Split} (i : IsSplit p s) (node c : ℕ) (o : Option Taken) (found : IsFound p o) {floor : ℕ} (ef : floor ≡ max c s.number)
+-- s: the record that registers; o: the latest coming above the later of the cancel c and the registering
+module _ {p : Past} {s : Taken} (i : IsTaken p s) (node c : ℕ) (o : Option Taken) (found : IsFound p o) {floor : ℕ} (ef : floor ≡ max c s.number)
     (e : number_of o ≡ above floor
     (latest_number (comes node (parent_by (decode s.record.now)) (decode s.record.now).b (decode s.record.now).voters) (taken p))) where
   abbrev t : ℕ

@@ -1,4 +1,5 @@
 // The debt that a node owes a right range by: the split by which it came to owe it. It is wanted once, at a fault.
+// Kinds and sub-codes are numbers, as the project's scope numbers them and the definitions speak of them.
 ghost use Rattle.std.specs.Prelude.{◌≡◌, true, ◌&&◌, ◌-◌, ◌≤◌, ◌<◌, Some};
 ghost use Rattle.std.specs.Option.{option_map};
 ghost use Rattle.record.specs.Records.{decode};

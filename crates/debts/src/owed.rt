@@ -1,5 +1,6 @@
 // What a node owes: for each registered split the latest record at which the node came to owe its right range, against
 // the latest that cancelled it.
+// Kinds and sub-codes are numbers, as the project's scope numbers them and the definitions speak of them.
 ghost use Rattle.std.specs.Prelude.{◌≡◌, not, ◌&&◌, ◌-◌, ◌≤◌, eqb, leb};
 ghost use Rattle.record.specs.Records.{decode};
 ghost use Rattle.rules.specs.History.{is_by};
@@ -8,7 +9,7 @@ ghost use Rattle.history.specs.Pasts.{taken, Indexed, IsTaken, IsFound, number_o
 ghost use Rattle.one_owner_per_key.specs.Numbers.{latest_number, latest_by};
 ghost use Rattle.splits.specs.Numbers.{refused_number};
 ghost use Rattle.splits.specs.Columns.{Known};
-ghost use Rattle.splits.specs.Walk.{IsSplit};
+ghost use Rattle.splits.specs.Walk.{taken_of};
 ghost use Rattle.debts.specs.Walk.{cancel_number, asks_kind, asks, applying, comes, above, reached, has_part, applied_first, owes_first, owes_split};
 ghost use Rattle.splits.specs.Splits.{parent_by};
 
@@ -23,6 +24,7 @@ use splits::split::{Split, has_taken, is_voter, parent_of};
 
 // Which records of a node and a range are looked for: a RangeRemoved, a RangeSplit at an index, a RangeDescriptor that
 // records an index, any of the kinds that can apply a split.
+// Each with its number is a question, no option; and a closure could not be required to be called only at records taken.
 #[derive(Clone, Copy)]
 pub enum Asked {
     Removed,
@@ -104,6 +106,7 @@ fn is_coming(past: &Past, old: &Taken, node: NodeId, split: &Record) -> bool
 }
 
 // The latest record above a floor at which a node comes to owe by its own application of the split that a record registered.
+// Not one with `latest_asked`: what the two ask of a record needs it to be one taken, which a closure's contract would have to ask again.
 fn latest_coming<'a>(
     past: &Past<'a>,
     floor: usize,
@@ -198,9 +201,8 @@ pub fn owes_first(past: &Past, top: usize, node: NodeId, rec: &Record) -> bool
 }
 
 // Whether a node owes by a split; cancel: the latest record that cancels its right range.
-#[tactic(auto, using(crate::proofs::Comings::owes_coming, crate::proofs::Comings::owes_cancelled, crate::proofs::Comings::owes_at_first))]
 pub fn owes_by(past: &Past, split: &Split, node: NodeId, cancel: usize) -> bool
-    requires { IsSplit past.now split.now }
+    requires { IsTaken past.now (taken_of split.now) }
     ensures { Indexed Known past.now → result ≡ owes_split past.now.log.now past.now.count node.0 (split.now.number - 1) cancel }
 {
     latest_coming(past, cancel.max(split.number), node, split.record).is_some()

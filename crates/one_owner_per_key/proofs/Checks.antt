@@ -2,14 +2,13 @@
 use mathlib.Core.Path.{◌≡◌, refl, sym, ap, ◌∙◌}
 use mathlib.Core.Bool.{Bool, true, false, cond, not, ◌&&◌, ◌||◌}
 use Rattle.std.specs.Prelude.{Option, None, Some, MatchOption}
-use Prim.Native.Nat.{ℕ, zero, suc, ◌+◌, ◌-◌, ◌*◌}
+use Prim.Native.Nat.{ℕ, suc, ◌+◌, ◌-◌, ◌*◌}
 use native.Mathlib.Omega.{arith}
 use lib.ListN.{length}
 use lib.Dec.{eqb, ltb}
 use borrow.Author.Tests.{le-ltb, ne_eqb}
 use Rattle.record.specs.declared.named.NodeId.{NodeId}
 use Rattle.record.specs.Records.{Span, TraceRecord, decode}
-use Rattle.rules.specs.Answers.{Found, found_at}
 use Rattle.std.proofs.lemmas.Map.Entries.{option_filter}
 use Rattle.history.specs.declared.past.Past.{Past}
 use Rattle.history.specs.declared.walk.Taken.{Taken}
@@ -53,25 +52,18 @@ module _ (p : Past) where
 
 -- ---- what was found
 
-pub found_case : (n : ℕ) → not (eqb n 0) ≡ is_some (found_at n)
-found_case zero = refl
-found_case (suc n) = ap not (ne_eqb (suc n) 0 (λ q. omega arith))
-
--- a range is held where its hold is found
-pub found_held : (node range : ℕ) (h : History) {f : Found} → f ≡ found_at (hold_number node range h) → has_hold node range h ≡ is_some f
-found_held node range h e = held_some node range h ∙ found_case (hold_number node range h) ∙ ap is_some (sym e)
-
 -- a number is one of a record found
 pub some_number : (p : Past) (o : Option Taken) → IsFound p o → is_some o ≡ not (eqb (number_of o) 0)
 some_number p None t = refl
 some_number p (Some y) t = let z : y.number ≡ 0 → ⊥ = λ q. omega (arith, t.some) in rw (ne_eqb y.number 0 z)
 
 module _ (p : Past) (node range n : ℕ) (o : Option Taken) (t : IsFound p o) (e : number_of o ≡ hold_number node range (hist p.log.now n)) where
-  pub held_found : is_some o ≡ has_hold node range (hist p.log.now n)
-  held_found = some_number p o t ∙ ap (λ (k : ℕ). not (eqb k 0)) e ∙ sym (held_some node range (hist p.log.now n))
+  -- a range is held where its hold is found
+  pub held_found : has_hold node range (hist p.log.now n) ≡ is_some o
+  held_found = held_some node range (hist p.log.now n) ∙ ap (λ (k : ℕ). not (eqb k 0)) (sym e) ∙ sym (some_number p o t)
 
   pub held_none : {t : Bool} → is_some o ≡ not t → t ≡ not (has_hold node range (hist p.log.now n))
-  held_none {t} q = go t (sym q ∙ held_found)
+  held_none {t} q = go t (sym (held_found ∙ q))
     where
       go : (t : Bool) → not t ≡ has_hold node range (hist p.log.now n) → t ≡ not (has_hold node range (hist p.log.now n))
       go true e = rw (← e)

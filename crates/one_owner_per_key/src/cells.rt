@@ -8,6 +8,7 @@ ghost use Rattle.history.specs.Places.{hold_heads, hold_links, node_heads, node_
 ghost use Rattle.one_owner_per_key.specs.Columns.{end_in, newest_in, before_in};
 
 use history::bucket::{bucket_by, bucket_by_two};
+use history::chain::no_later;
 use history::past::Past;
 use history::place::{ENDED_AT, HOLD_HEADS, HOLD_LINKS, NEWLY_HELD, NODE_HEADS, NODE_LINKS};
 use history::walk::Chain;
@@ -55,8 +56,7 @@ pub fn newly_before(past: &Past, k: usize) -> usize
     requires { (0 < k) × (k ≤ past.now.cap) }
     ensures { (result < k) × (result ≡ before_in past.now.work.now past.now.cap k) }
 {
-    let before = (past.word(NEWLY_HELD, k - 1) / 2) as usize;
-    if k - 1 < before { 0 } else { before }
+    no_later((past.word(NEWLY_HELD, k - 1) / 2) as usize, k - 1)
 }
 
 // The number of the latest record up to this one at which its node newly held a range, 0 where there is none.

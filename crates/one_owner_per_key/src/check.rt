@@ -1,4 +1,5 @@
 // The clauses overlap, install and twice: what each says of a record, judged by it and those before.
+// Kinds and sub-codes are numbers, as the project's scope numbers them and the definitions speak of them.
 ghost use Rattle.std.specs.Prelude.{◌≡◌, ◌<◌};
 ghost use Rattle.record.specs.Records.{decode};
 ghost use Rattle.rules.specs.Descriptors.{span_of};

@@ -1,8 +1,8 @@
 // What a node holds: the latest record of kinds 1, 2 and 9 of the node and the range, against the node's latest crash
 // or refusal. Look-backs are as of the first `top` of the records taken.
+// Kinds and sub-codes are numbers, as the project's scope numbers them and the definitions speak of them.
 ghost use Rattle.std.specs.Prelude.{◌≡◌, ◌≤◌};
 ghost use Rattle.record.specs.Records.{decode};
-ghost use Rattle.rules.specs.Answers.{found_at};
 ghost use Rattle.rules.specs.History.{is_by};
 ghost use Rattle.rules.specs.OneOwnerPerKey.{is_holding};
 ghost use Rattle.history.specs.Logs.{hist};
@@ -76,12 +76,13 @@ pub fn held_after<'a>(
     hold_of(past, top, node, range).filter(|hold| (ended < hold.number) & is_holding(hold.record))
 }
 
-// The number of the record over whose span a node holds a range, as of the first top records.
-// As an answer it is a word, into which an index has no `From`.
-pub fn held_by(past: &Past, top: usize, node: NodeId, range: u64) -> Option<u64>
+// The record over whose span a node holds a range, as of the first top records.
+pub fn held_by<'a>(past: &Past<'a>, top: usize, node: NodeId, range: u64) -> Option<Taken<'a>>
     requires { top ≤ past.now.count }
-    ensures { Indexed OwnersIndexed past.now → result ≡ found_at (hold_number node.0 range (hist past.now.log.now top)) }
+    ensures found { IsFound past.now result }
+    ensures within { number_of result ≤ top }
+    ensures held { Indexed OwnersIndexed past.now → number_of result ≡ hold_number node.0 range (hist past.now.log.now top) }
 {
     let ended = end_by(past, latest_of(past, top, node));
-    held_after(past, top, node, range, ended).map(|held| held.number as u64)
+    held_after(past, top, node, range, ended)
 }

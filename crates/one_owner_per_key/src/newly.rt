@@ -9,6 +9,7 @@ use history::walk::Taken;
 use record::named::NodeId;
 
 // What is left of them: the number of the next one, and that of the end, no later than which there is none.
+// The next one's is 0 where they are over: the words of the lent area hold it so.
 #[derive(Clone, Copy)]
 pub struct NewlyHeld<'a> {
     pub past: Past<'a>,

@@ -1,4 +1,5 @@
 // half, at a Took of a registered split, at a RangesRestated and at a registering.
+// Kinds and sub-codes are numbers, as the project's scope numbers them and the definitions speak of them.
 ghost use Rattle.std.specs.Prelude.{◌≡◌, true, not, ◌&&◌, [], ◌∷◌, map, ◌<◌, eqb, ltb, Some};
 ghost use Rattle.record.specs.declared.named.ApplyEffect.TheVariants.{Took};
 ghost use Rattle.record.specs.Records.{decode};

@@ -7,12 +7,11 @@ ghost use Rattle.rules.specs.RightHalf.{registers, is_restated, restated_with, o
 ghost use Rattle.splits.specs.Numbers.{restated_number, refused_number};
 ghost use Rattle.splits.specs.Columns.{Known};
 ghost use Rattle.splits.specs.Walk.{split_of};
-ghost use Rattle.history.specs.Pasts.{taken, Indexed, IsTaken};
+ghost use Rattle.history.specs.Pasts.{taken, Indexed};
 
 use crate::missing::is_below;
 use debts::owed::{cancel_of, is_reached, owes_by};
 use history::past::Past;
-use history::walk::Taken;
 use one_owner_per_key::held::{held_by, latest_of};
 use record::field;
 use record::named::NodeId;
@@ -34,11 +33,11 @@ pub fn is_owed(past: &Past, node: NodeId, refused: usize, right: u64) -> bool
 }
 
 // Whether a restated node held a range at its latest RangesRestated, which a refusal since drops.
-pub fn was_held(past: &Past, node: NodeId, restated: &Taken, refused: usize, range: u64) -> bool
-    requires { IsTaken past.now restated.now }
-    ensures { Indexed Known past.now → restated.now.number ≡ restated_number node.0 (taken past.now) → refused ≡ refused_number node.0 (taken past.now) → is_restated node.0 (taken past.now) ≡ true → result ≡ restated_with node.0 range (taken past.now) }
+pub fn was_held(past: &Past, node: NodeId, restated: usize, refused: usize, range: u64) -> bool
+    requires { restated ≤ past.now.count }
+    ensures { Indexed Known past.now → restated ≡ restated_number node.0 (taken past.now) → refused ≡ refused_number node.0 (taken past.now) → is_restated node.0 (taken past.now) ≡ true → result ≡ restated_with node.0 range (taken past.now) }
 {
-    refused < restated.number && held_by(past, restated.number - 1, node, range).is_some()
+    refused < restated && held_by(past, restated - 1, node, range).is_some()
 }
 
 // Whether a node lacks the right range of the split that the next record registers.
@@ -62,7 +61,7 @@ pub fn lacks_at(past: &Past, node: NodeId, split: &Split) -> bool
     ) {
         return false;
     }
-    if was_held(past, node, &restated, refused, split.right) {
+    if was_held(past, node, restated.number, refused, split.right) {
         return false;
     }
     if is_voter(split.record, server_by(past, last, node)) {

@@ -5,10 +5,10 @@ ghost use Rattle.rules.specs.RightHalf.{registered, is_missing};
 ghost use Rattle.one_owner_per_key.specs.Numbers.{latest_end};
 ghost use Rattle.splits.specs.Numbers.{refused_number};
 ghost use Rattle.splits.specs.Columns.{Known};
-ghost use Rattle.splits.specs.Walk.{IsSplit};
+ghost use Rattle.splits.specs.Walk.{taken_of};
 ghost use Rattle.right_half.specs.Answers.{lacks_split};
 ghost use Rattle.one_owner_per_key.specs.Answers.{is_below};
-ghost use Rattle.history.specs.Pasts.{taken, Indexed};
+ghost use Rattle.history.specs.Pasts.{taken, Indexed, IsTaken};
 
 use debts::owed::{cancel_of, has_part, owes_by};
 use history::past::Past;
@@ -29,7 +29,7 @@ pub fn is_below(right: u64, best: Option<u64>) -> bool
 // Whether a node lacks the right range of a split; ended: its latest crash or refusal, refused: its latest refusal. The cheap
 // tests come first: most splits are of ranges that the node holds, or has no part in.
 fn is_lacking(past: &Past, node: NodeId, ended: usize, refused: usize, split: &Split) -> bool
-    requires { IsSplit past.now split.now }
+    requires { IsTaken past.now (taken_of split.now) }
     ensures { Indexed Known past.now → ended ≡ latest_end node.0 (taken past.now) → refused ≡ refused_number node.0 (taken past.now) → result ≡ lacks_split past.now.log.now past.now.count node.0 (split.now.number - 1) split.now.right }
 {
     if held_after(past, past.count, node, split.right, ended).is_some() {

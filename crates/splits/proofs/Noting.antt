@@ -26,7 +26,7 @@ use Rattle.history.proofs.Logs.{hist_none, hist_length, hist_suc, record_bytes}
 use Rattle.history.proofs.Cells.{cell_at}
 use Rattle.history.proofs.Chains.{clamped}
 use Rattle.one_owner_per_key.specs.Columns.{word_by}
-use Rattle.one_owner_per_key.proofs.Checks.{found_case, some_number}
+use Rattle.one_owner_per_key.proofs.Checks.{some_number}
 use Rattle.one_owner_per_key.proofs.Latest.{number_none, number_bound, number_step}
 use Rattle.splits.specs.Numbers.{restated_number, refuses, refused_number, pending_number, is_registering, latest_registering, named_number}
 use Rattle.splits.specs.Columns.{split_bucket, by_split, recorded_bucket, records_by, by_recording, server_cell, restated_cell, refused_cell, pending_cell, registered_cell, registering_in}
@@ -89,6 +89,10 @@ split_cases : (cap : ℕ) (log : List ℕ) (x : TraceRecord) (k : ℕ) → when 
     ≡ given (λ s. Some (split_bucket cap s.parent s.index)) (split_as log x k)
 split_cases cap log x zero = refl
 split_cases cap log x (suc k) = rw eqb-suc-zero
+
+found_case : (k : ℕ) → not (eqb k 0) ≡ is_some (found_at k)
+found_case zero = refl
+found_case (suc k) = rw eqb-suc-zero
 
 module _ (log : List ℕ) (x : TraceRecord) (n : ℕ) {o : Option ℕ} (e : o ≡ found_at (named_number x (hist log n))) where
   named_some : is_some o ≡ is_registering x (hist log n)

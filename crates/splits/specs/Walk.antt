@@ -3,6 +3,7 @@ use Rattle.std.specs.Prelude.{◌≡◌, true, ℕ, ◌-◌, ◌<◌, ◌≤◌,
 use Rattle.record.specs.Records.{decode}
 use Rattle.rules.specs.RightHalf.{Registered, registers}
 use Rattle.history.specs.declared.past.Past.{Past}
+use Rattle.history.specs.declared.walk.Taken.{Taken}
 use Rattle.history.specs.Logs.{bytes_at, record_at, hist}
 use Rattle.history.specs.Pasts.{Indexed}
 use Rattle.splits.specs.declared.split.Split.{Split}
@@ -14,6 +15,10 @@ use Rattle.splits.specs.Columns.{Known, registering_in}
 -- the split that is found: its parent, index and voters are those of the record
 abbrev pub split_of : Split → Registered
 split_of x = record { parent = parent_by (decode x.record.now); index = (decode x.record.now).b; right = x.right; voters = (decode x.record.now).voters }
+
+-- the record that registered it, with its number
+abbrev pub taken_of : Split → Taken
+taken_of x = record { number = x.number; «record» = x.record }
 
 -- the number of the record that registered what was found, 0 where that is nothing
 abbrev pub number_by : Option Split → ℕ

@@ -1,12 +1,14 @@
 // The readers of this crate's columns: a node as of its latest record, what a record registers, and the two chains. Whatever a
-// column holds, a number that is read is no later than what it is read at.
+// column holds, a number that is read is no later than what it is read at. 0 stands in the lent words for the beginning before any
+// record, and `numbered` makes it `None`.
 ghost use Rattle.std.specs.Prelude.{◌≡◌, not, ◌+◌, ◌-◌, ◌*◌, ◌≤◌, ◌<◌, eqb, get_or};
 ghost use Rattle.history.specs.Columns.{number_in};
 ghost use Rattle.history.specs.Pasts.{IsTaken, IsFound, number_of, Begins};
 ghost use Rattle.history.specs.Places.{server_at, restated_at, refused_at, pending_at, split_heads, split_links, recorded_heads, recorded_links};
 ghost use Rattle.splits.specs.Columns.{server_in, registering_in, named_in, split_bucket, recorded_bucket};
 
-use history::bucket::{bucket_of, mixed, mixed_after};
+use history::bucket::{bucket_by, bucket_by_two};
+use history::chain::no_later;
 use history::past::Past;
 use history::place::{
     PENDING_AT, RECORDED_HEADS, RECORDED_LINKS, REFUSED_AT, REGISTERED_BY, RESTATED_AT, SERVER_AT,
@@ -15,8 +17,7 @@ use history::place::{
 use history::walk::{Chain, Taken};
 use record::named::{NodeId, ServerId};
 
-// The server that a node is, by its latest record; as of 0, the beginning before any record, it is its own.
-// A number is the length of a beginning too, so 0 is no number that is missing.
+// The server that a node is, by its latest record; as of 0, the beginning before any record, of which there is no word, it is its own.
 pub fn server_by(past: &Past, last: usize, node: NodeId) -> ServerId
     requires { last ≤ past.now.cap }
     ensures { result.0 ≡ server_in past.now.work.now past.now.cap last node.0 }
@@ -46,7 +47,7 @@ pub fn refused_by(past: &Past, last: usize) -> usize
 }
 
 // A node's pending RangeSplit, by its latest record.
-pub fn pending_by<'a>(past: &Past<'a>, last: usize) -> Option<Taken<'a>>
+pub fn pending_of<'a>(past: &Past<'a>, last: usize) -> Option<Taken<'a>>
     requires { last ≤ past.now.count }
     ensures found { IsFound past.now result }
     ensures is { number_of result ≡ number_in (pending_at * past.now.cap) past.now.work.now last }
@@ -79,8 +80,7 @@ pub fn registering_by(past: &Past, k: usize) -> usize
     if k == 0 {
         0
     } else {
-        let latest = (past.word(REGISTERED_BY, k - 1) % 8192) as usize;
-        if k < latest { 0 } else { latest }
+        no_later((past.word(REGISTERED_BY, k - 1) % 8192) as usize, k)
     }
 }
 
@@ -93,14 +93,6 @@ pub fn named_by(past: &Past, at: usize) -> usize
     (past.word(REGISTERED_BY, at) / 8192) as usize
 }
 
-// The bucket of a parent and an index.
-pub fn split_bucket(cap: usize, parent: u64, index: u64) -> usize
-    requires { (0 < cap) × (cap ≤ 4096) }
-    ensures { (result ≡ split_bucket cap parent index) × (result < cap) }
-{
-    bucket_of(cap, mixed_after(mixed(parent), index))
-}
-
 // The records that register a split, chained by its parent and index, from the newest on.
 pub fn split_chain<'a>(past: &Past<'a>, parent: u64, index: u64) -> Chain<'a>
     ensures { Begins past.now split_heads split_links (split_bucket past.now.cap parent index) result }
@@ -108,25 +100,13 @@ pub fn split_chain<'a>(past: &Past<'a>, parent: u64, index: u64) -> Chain<'a>
     past.chain(
         SPLIT_HEADS,
         SPLIT_LINKS,
-        split_bucket(past.cap, parent, index),
+        bucket_by_two(past.cap, parent, index),
     )
-}
-
-// The bucket of a range's recorded indexes.
-pub fn recorded_bucket(cap: usize, range: u64) -> usize
-    requires { (0 < cap) × (cap ≤ 4096) }
-    ensures { (result ≡ recorded_bucket cap range) × (result < cap) }
-{
-    bucket_of(cap, mixed(range))
 }
 
 // The records that record an index, chained by their range, from the newest on.
 pub fn recorded_chain<'a>(past: &Past<'a>, range: u64) -> Chain<'a>
     ensures { Begins past.now recorded_heads recorded_links (recorded_bucket past.now.cap range) result }
 {
-    past.chain(
-        RECORDED_HEADS,
-        RECORDED_LINKS,
-        recorded_bucket(past.cap, range),
-    )
+    past.chain(RECORDED_HEADS, RECORDED_LINKS, bucket_by(past.cap, range))
 }

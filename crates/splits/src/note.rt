@@ -1,5 +1,6 @@
 // What a record leaves in this crate's columns: its node's state with it, what it registers, and its places in the two
 // chains.
+// Kinds and sub-codes are numbers, as the project's scope numbers them and the definitions speak of them.
 ghost use Rattle.std.specs.Prelude.{◌≡◌, true, cond, not, ◌&&◌, ◌∷◌, ℕ, ◌+◌, ◌*◌, ◌≤◌, ◌<◌, length, eqb, IfSome};
 ghost use Rattle.record.specs.Records.{decode};
 ghost use Rattle.rules.specs.Answers.{found_at};
@@ -14,11 +15,9 @@ ghost use Rattle.splits.specs.Numbers.{pending_number};
 ghost use Rattle.splits.specs.Columns.{Known, HalfNoted, Celled, CellsPut, server_in, registering_in, split_bucket, recorded_bucket};
 ghost use Rattle.splits.specs.Splits.{parent_by};
 
-use crate::cells::{
-    pending_by, recorded_bucket, refused_by, registering_by, restatement_by, server_by,
-    split_bucket,
-};
+use crate::cells::{pending_of, refused_by, registering_by, restatement_by, server_by};
 use crate::split::{parent_of, registers, uses_up};
+use history::bucket::{bucket_by, bucket_by_two};
 use history::chain::{enter_if, put};
 use history::past::Past;
 use history::place::{
@@ -83,7 +82,7 @@ fn pending_with(past: &Past, rec: &Record, last: usize) -> usize
     match field::kind(rec) {
         7 => past.count + 1,
         6 | 10 => 0,
-        _ => pending_by(past, last)
+        _ => pending_of(past, last)
             .filter(|split| !uses_up(rec, split.record))
             .map_or(0, |split| split.number),
     }
@@ -107,7 +106,7 @@ fn split_with(past: &Past, rec: &Record, named: Option<usize>) -> Option<usize>
     ensures is { result ≡ when (is_some named) (split_bucket past.now.cap (parent_by (decode rec.now)) (decode rec.now).b) }
 {
     let cap = past.cap;
-    named.map(|_| split_bucket(cap, parent_of(rec), field::b(rec)))
+    named.map(|_| bucket_by_two(cap, parent_of(rec), field::b(rec)))
 }
 
 // The bucket of a record that records an index: a RangeDescriptor of a node that is not restated.
@@ -118,10 +117,10 @@ fn recording_with(past: &Past, rec: &Record, last: usize) -> Option<usize>
 {
     let records = (field::kind(rec) == 2) & restatement_by(past, last).is_none();
     let cap = past.cap;
-    records.then(|| recorded_bucket(cap, field::a(rec)))
+    records.then(|| bucket_by(cap, field::a(rec)))
 }
 
-// The cells of a record. They are words, into which the numbers, indexes, have no `From`: `as` is proved to lose nothing.
+// The cells of a record, which are words. Three are numbers, indexes, which have no `From` into a word: each `as` is proved to lose nothing.
 fn cells_of(past: &Past, rec: &Record) -> Cells
     requires { past.now.count < past.now.cap }
     ensures within { (IfSome result.split (λ b. b < past.now.cap)) × (IfSome result.recording (λ b. b < past.now.cap)) }

@@ -1,4 +1,5 @@
 // Splits: who registers one, with which right range and voters, and the record that registered (parent, index).
+// Kinds and sub-codes are numbers, as the project's scope numbers them and the definitions speak of them.
 ghost use Rattle.std.specs.Prelude.{◌≡◌, ◌&&◌, ℕ, ◌+◌, ◌-◌, ◌≤◌, eqb, Some, IfSome};
 ghost use Rattle.std.specs.Option.{option_map};
 ghost use Rattle.record.specs.declared.named.ApplyEffect.TheVariants.{Took};
@@ -15,7 +16,7 @@ ghost use Rattle.splits.specs.Columns.{Known};
 ghost use Rattle.splits.specs.Splits.{parent_by, right_named};
 ghost use Rattle.splits.specs.Walk.{split_of, IsSplit, AreSplit, number_by};
 
-use crate::cells::{named_by, pending_by, split_chain};
+use crate::cells::{named_by, pending_of, split_chain};
 use history::past::Past;
 use history::walk::Taken;
 use record::named::{NodeId, ServerId};
@@ -126,7 +127,7 @@ fn names(past: &Past, rec: &Record, last: usize) -> Option<usize>
     if is_created(rec) {
         return Some(past.count + 1);
     }
-    pending_by(past, last)
+    pending_of(past, last)
         .filter(|split| uses_up(rec, split.record))
         .map(|split| split.number)
 }

@@ -5,7 +5,7 @@ use crate::cells::registering_by;
 use crate::split::{Split, split_at};
 use history::past::Past;
 
-// What is left of them: the number of the record that registers the next one, 0 where there is none.
+// What is left of them: the number of the record that registers the next one, 0 where they are over: the words of the lent area hold it so.
 #[derive(Clone, Copy)]
 pub struct Splits<'a> {
     pub past: Past<'a>,

@@ -4,7 +4,7 @@ use Rattle.std.specs.Prelude.{Some, is_some}
 use Rattle.record.specs.Records.{decode}
 use Rattle.history.specs.Logs.{hist}
 use borrow.Author.Tests.{eq-eqb, ne_eqb}
-use Rattle.one_owner_per_key.proofs.Checks.{found_held}
+use Rattle.one_owner_per_key.proofs.Checks.{held_found}
 use Rattle.rules.proofs.Owners.{twice_unmarked, twice_other, twice_held, twice_free}
 use Rattle.one_owner_per_key.proofs.check.twice.Goals as goal
 
@@ -28,11 +28,11 @@ returns-in_err-held_by c =
     let a = c.args in
     λ ix. c.from_residual-in_err-held_by.ensures ∙ twice_free (decode a.rec.now) (hist a.past.now.log.now a.past.now.count) (sym c.node.ensures ∙ c.in_ok-node.was)
     (eq-eqb _ 1 (sym c.kind.ensures ∙ c.if-kind-ne1.false)) c.a-range.ensures
-    (found_held _ _ _ (c.held_by.ensures ix) ∙ ap is_some c.in_err-held_by.was)
+    (held_found a.past.now _ _ _ _ c.held_by.ensures.found (c.held_by.ensures.held ix) ∙ ap is_some c.in_err-held_by.was)
 
 pub returns : goal.returns
 returns c =
     let a = c.args in
     λ ix. (rw c.from.ensures at (ap Some c.new.ensures)) ∙ twice_held (decode a.rec.now) (hist a.past.now.log.now a.past.now.count) (sym c.node.ensures ∙ c.in_ok-node.was)
     (eq-eqb _ 1 (sym c.kind.ensures ∙ c.if-kind-ne1.false)) c.a-range.ensures c.b.ensures
-    (found_held _ _ _ (c.held_by.ensures ix) ∙ ap is_some c.in_ok-held_by.was)
+    (held_found a.past.now _ _ _ _ c.held_by.ensures.found (c.held_by.ensures.held ix) ∙ ap is_some c.in_ok-held_by.was)

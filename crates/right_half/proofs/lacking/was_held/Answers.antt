@@ -2,8 +2,7 @@
 use mathlib.Core.Path.{sym, ◌∙◌}
 use borrow.Author.Tests.{le-ltb}
 use Prim.Native.Nat.{◌-◌}
-use Rattle.history.specs.Logs.{hist}
-use Rattle.one_owner_per_key.proofs.Checks.{found_held}
+use Rattle.one_owner_per_key.proofs.Checks.{held_found}
 use Rattle.right_half.proofs.Lacks.{with_dropped, with_held}
 use Rattle.right_half.proofs.lacking.was_held.Goals as goal
 
@@ -11,13 +10,13 @@ pub returns-then-refused-restated : goal.returns-then-refused-restated
 returns-then-refused-restated c =
     let a = c.args in
     let p = a.past.now in
-    let k = a.restated.now.number in
+    let h = c.held_by in
     λ ix ek ef is. with_held a.node.0 a.range p.log.now p.count ek ef is c.if-refused-restated.true
-    (found_held a.node.0 a.range (hist p.log.now (k - 1)) (c.held_by.ensures ix.0) ∙ sym c.is_some.ensures)
+    (held_found p a.node.0 a.range (a.restated - 1) h.result h.ensures.found (h.ensures.held ix.0) ∙ sym c.is_some.ensures)
 
 pub returns-else-refused-restated : goal.returns-else-refused-restated
 returns-else-refused-restated c =
     let a = c.args in
     let p = a.past.now in
-    λ ix ek ef is. le-ltb a.refused a.restated.now.number c.if-refused-restated.false
+    λ ix ek ef is. le-ltb a.refused a.restated c.if-refused-restated.false
     ∙ with_dropped a.node.0 a.range p.log.now p.count ek ef is c.if-refused-restated.false

@@ -15,7 +15,7 @@ returns-then-is_some c =
     let s = a.split.now in
     let h = c.held_after in
     λ ix d e. lacks_held p.log.now p.count a.node.0 (s.number - 1) s.right
-    (sym (held_found p a.node.0 s.right p.count h.result h.ensures.found (h.ensures.held ix.0 d)) ∙ sym c.is_some.ensures ∙ c.if-is_some.true)
+    (held_found p a.node.0 s.right p.count h.result h.ensures.found (h.ensures.held ix.0 d) ∙ sym c.is_some.ensures ∙ c.if-is_some.true)
 
 pub returns-then-not-has_part : goal.returns-then-not-has_part
 returns-then-not-has_part c =
@@ -32,5 +32,5 @@ returns c =
     let s = a.split.now in
     let h = c.held_after in
     λ ix d e. lacks_owes p.log.now p.count a.node.0 (s.number - 1) s.right
-    (sym (held_found p a.node.0 s.right p.count h.result h.ensures.found (h.ensures.held ix.0 d)) ∙ sym c.is_some.ensures ∙ c.if-is_some.false)
+    (held_found p a.node.0 s.right p.count h.result h.ensures.found (h.ensures.held ix.0 d) ∙ sym c.is_some.ensures ∙ c.if-is_some.false)
     (c.cancel_of-cancel.ensures ix e) (c.owes_by.ensures ix)

@@ -20,7 +20,7 @@ pub returns-in_default : goal.returns-in_default
 returns-in_default c =
     let p = c.args.past.now in
     let x = decode c.args.rec.now in
-    let o = c.pending_by in
+    let o = c.pending_of in
     λ ix node e b.
     pending_left p.log.now p.count node x b c.kind.ensures (λ z. search rules) (λ z. search rules) (λ z. search rules)
     (pendingly_is p.log.now node p.within (omega arith) e ix.1.pendings o.ensures.is)

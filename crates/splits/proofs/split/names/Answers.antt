@@ -18,7 +18,7 @@ pub returns-clause-names : goal.returns-clause-names
 returns-clause-names c =
     let a = c.args in
     let p = a.past.now in
-    let o = c.pending_by in
+    let o = c.pending_of in
     λ ix node e.
     let k = pendingly_is p.log.now node p.within (omega arith) e ix.1.pendings o.ensures.is in
     let q = names_found p (decode a.rec.now) node c.is_created.ensures c.if-is_created.false o.result o.ensures.found k
