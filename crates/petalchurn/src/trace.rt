@@ -19,7 +19,7 @@ fn refused_at(outcome: Result<(), Refusal>, at: usize) -> u64
 {
     match outcome {
         Ok(()) => 0,
-        Err(refusal) => at as u64,
+        Err(_) => at as u64,
     }
 }
 
