@@ -1,4 +1,5 @@
 // What is decided of a record: the refusal that it draws, or the checks that it concerns.
+// Kinds are numbers, as the project's scope numbers them and the definitions speak of them.
 #![tactic(auto)]
 
 pub mod refusal;
@@ -103,7 +104,7 @@ fn concerned_of(kind: u8) -> Result<Concerned, Refusal>
 }
 
 // Decides by the judge's numbers, the record's kind and form, the event that it continues and the room for it. Refusals come in the order
-// 5, 1, 2, 3, 4, 11, 6.
+// 5, 1, 2, 3, 4, 11, 6. The core is lent numbers and slices across calls, docs/DECISIONS.md 37.
 pub fn decide<'a>(
     log: &[u8],
     words: usize,

@@ -21,6 +21,7 @@ use right_half::check::half;
 
 // The rows of the reports with the record, after the records taken, of so many events. Its position, the number of its event, is computed here,
 // once for all checks. Each check is called from here and from nowhere else.
+// `rows`, `events` and `tenant` are apart: numbers and slices across calls, docs/DECISIONS.md 37.
 pub fn judge(
     past: &Past,
     rows: &mut [u64],
@@ -36,6 +37,7 @@ pub fn judge(
     let for_tenant = |past: &Past, rec: &Record|
         ensures { Indexed OwnersIndexed past.now → result ≡ install_at tenant (decode rec.now) (taken past.now) }
     { install(past, rec, tenant) };
+    // The numbers 0 to 7 are places in the table of checks, whose order is that of the rows: the contract holds each call to it.
     step(past, rec, rows, 0, concerned.agreement, position, agreement);
     step(past, rec, rows, 1, concerned.overlap, position, overlap);
     step(past, rec, rows, 2, concerned.install, position, for_tenant);

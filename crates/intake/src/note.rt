@@ -8,7 +8,7 @@ ghost use Rattle.intake.specs.Words.{Noted};
 use record::Record;
 
 // A note that looks back by another's columns comes before it: half's before the owners', generations' before the descriptors'.
-// The work area is lent for writing, and so is no part of a `Past`: each note makes its own.
+// The work area is lent for writing, and so is no part of a `Past`: each note makes its own of the numbers and slices, docs/DECISIONS.md 37.
 pub fn note(log: &[u8], work: &mut [u64], n: usize, cap: usize, rec: &Record)
     requires { Bounds log.now work.old n cap × (n < cap) }
     ensures { Noted cap (hist log.now n) (decode rec.now) work.old work.new }

@@ -11,7 +11,7 @@ use history::past::Past;
 use record::Record;
 
 // Gives the record that the bytes are, and makes the rows those that it would leave after n others of so many events; or gives its refusal, and
-// the rows are as they stood. Log and work area are lent for reading only.
+// the rows are as they stood. Log and work area are lent for reading only. Numbers and slices are handed over, and no judge: docs/DECISIONS.md 37.
 pub fn preview<'a>(
     log: &[u8],
     work: &[u64],

@@ -14,6 +14,7 @@ fn passes(rows: &[u64], k: usize) -> bool
     requires { (length rows.now ≡ rows_size) × (k < check_count) }
     ensures { result ≡ eqb (get_or rows.now (7 * k) 0) 0 }
 {
+    // The row is words, as a host keeps it, and is read as it lies: its first is a fault's kind, 0 for none.
     rows[REPORT_WORDS * k] == 0
 }
 

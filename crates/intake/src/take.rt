@@ -10,6 +10,7 @@ use decision::refusal::Refusal;
 use record::Record;
 
 // Takes the record that the bytes are, after n others of so many events, and gives it; or gives its refusal, and everything is as it stood.
+// Numbers and slices are handed over, and no judge: its state's words and its reports are kept otherwise by each caller, docs/DECISIONS.md 37.
 pub fn take<'a>(
     log: &mut [u8],
     work: &mut [u64],

@@ -7,7 +7,8 @@ use decision::refusal::Refusal;
 use rows::pass;
 use rules::{CHECKS, Report};
 
-// What a call for a report gives: its refusal, the judge as it was given, and the report.
+// What a call for a report gives: its refusal, the judge as it was given, and the report. The interface gives a report in any case: a pass
+// where the call is refused.
 #[derive(Clone, Copy)]
 pub struct Reported {
     pub outcome: Result<(), Refusal>,

@@ -23,6 +23,7 @@ pub enum Question {
 
 // What a look-up gives: its refusal, the judge, and the answer. That is the number of the putting record, 0 for none; how many
 // statements, holders or blocks there are; 1 where no value has been put, else 0.
+// The interface gives a value in any case: that of no records where the judge is refused, 0 where the list is too short (specs/Lookups).
 #[derive(Clone, Copy)]
 pub struct Looked {
     pub outcome: Result<(), Refusal>,
@@ -31,11 +32,10 @@ pub struct Looked {
 }
 
 // The number of the record found, 0 for none.
-// No `From` can say it: both types are std's. Nor has a `u64` one into an index: `as` is proved to lose nothing.
-fn found_number(found: Option<u64>) -> usize
+fn found_number(found: Option<u64>) -> u64
     ensures { result ≡ found_number found }
 {
-    found.map_or(0, |number| number as usize)
+    found.unwrap_or(0)
 }
 
 // The answer of no records.
@@ -49,7 +49,8 @@ fn of_none(question: Question) -> u64
 }
 
 // The answer of the records that the columns are of, or none where the list is too short for it.
-fn answer(past: &Past, question: Question, out: &mut [u64]) -> Option<usize>
+// It is a word, as C is given it, into which the length of a list has no `From`: `as` is proved to lose nothing.
+fn answer(past: &Past, question: Question, out: &mut [u64]) -> Option<u64>
     ensures { ListedBy question past.now.cap past.now.log.now past.now.work.now past.now.count out.old out.new result }
 {
     match question {
@@ -59,11 +60,10 @@ fn answer(past: &Past, question: Question, out: &mut [u64]) -> Option<usize>
             let first = first_at_generation(past, range, generation);
             Some(found_number(first))
         }
-        // A count of statements is a word, which has no `From` into an index.
-        Question::Statements => Some(statements(past) as usize),
-        Question::IsEmpty => Some(usize::from(is_empty(past))),
-        Question::HoldersOf(id) => holders_of(past, id, out),
-        Question::Blocks => blocks(past, out),
+        Question::Statements => Some(statements(past)),
+        Question::IsEmpty => Some(u64::from(is_empty(past))),
+        Question::HoldersOf(id) => holders_of(past, id, out).map(|count| count as u64),
+        Question::Blocks => blocks(past, out).map(|count| count as u64),
     }
 }
 
@@ -107,8 +107,7 @@ impl Judge {
         Looked {
             outcome: Ok(()),
             judge,
-            // The answer is a word, as C is given it, into which an index has no `From`.
-            value: value as u64,
+            value,
         }
     }
 }

@@ -47,6 +47,7 @@ impl Judge {
     {
         let capacity = log.len() / Judge::RECORD_SIZE;
         let asked = Judge::fresh(capacity, opening).suits(log.len(), work.len());
+        // A log with no room for one record opens no judge: a capacity of 0 is what a refused opening leaves.
         if !asked.holds | (capacity == 0) {
             return Opened {
                 outcome: Err(Refusal::Opening),

@@ -11,7 +11,7 @@ use rows::{ROWS, pass, read_rows, write_rows};
 use rules::{CHECKS, Report};
 
 // What a preview gives: whether a push would be refused, the judge as it was given, the reports that it would have, and a ticket
-// to commit the record with.
+// to commit the record with. The interface gives reports and ticket in any case: where a push would be refused, a ticket of zeros.
 #[derive(Clone, Copy)]
 pub struct Previewed {
     pub outcome: Result<(), Refusal>,

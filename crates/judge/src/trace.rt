@@ -14,6 +14,7 @@ use rows::{ROWS, read_rows};
 use rules::Opening;
 
 // What a whole trace gives: the first refusal, the number of the record that it came at, and the judge.
+// `at` says where in any case: without a refusal it is the number of the last record taken, 0 for none.
 #[derive(Clone, Copy)]
 pub struct Traced {
     pub outcome: Result<(), Refusal>,
@@ -22,6 +23,7 @@ pub struct Traced {
 }
 
 // What a trace's records came to: the first refusal and the number of its record, how many were taken, and of how many events.
+// `at` is as in `Traced`.
 #[derive(Clone, Copy)]
 struct Fed {
     outcome: Result<(), Refusal>,
@@ -30,7 +32,7 @@ struct Fed {
     events: u64,
 }
 
-// Takes a trace's records up to the first refusal, by numbers and slices alone.
+// Takes a trace's records up to the first refusal, by numbers and slices alone: so they go across calls, docs/DECISIONS.md 37.
 fn feed(
     log: &mut [u8],
     work: &mut [u64],
@@ -42,6 +44,7 @@ fn feed(
     requires { length rows.old ≡ rows_size }
     ensures { FedBy (record { tenant = tenant }) cap log.old work.old rows.old trace.now (outcome_number result.outcome) result.at result.count result.events log.new work.new rows.new }
 {
+    // No `enumerate`: the number of records taken is also the answer after the last, beside that of the events.
     let mut n: usize = 0;
     let mut events: u64 = 0;
     for bytes in trace.chunks(Judge::RECORD_SIZE) {

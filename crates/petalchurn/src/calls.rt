@@ -3,6 +3,7 @@ ghost use Rattle.std.specs.Prelude.{◌≡◌, true};
 ghost use Rattle.state_words.specs.StateWords.{is_state};
 ghost use Rattle.petalchurn.specs.Calls.{OpensWords, PushesWords, ReportsWords};
 
+use decision::refusal::Refusal;
 use events::event_after;
 use intake::take::take;
 use judge::state::{Judge, number_of};
@@ -18,7 +19,7 @@ pub fn petalchurn_open(tenant: u64, log: &[u8], work: &mut [u64], state: &mut [u
     ensures { OpensWords (record { tenant = tenant }) log.now work.old state.old result work.new state.new }
 {
     if state.len() != STATE_WORDS {
-        return 8;
+        return Refusal::Output.number();
     }
     let opening = Opening { tenant: tenant };
     let opened = Judge::open(opening, log, work);
@@ -54,7 +55,7 @@ pub fn petalchurn_push(state: &mut [u64], log: &mut [u8], work: &mut [u64], rec:
     ensures { PushesWords state.old log.old work.old rec.now result state.new log.new work.new }
 {
     if !is_state(state) {
-        return 5;
+        return Refusal::Judge.number();
     }
     take_into(state, log, work, rec)
 }
@@ -64,18 +65,17 @@ pub fn petalchurn_report(state: &[u64], k: u64, out: &mut [u64]) -> u64
     ensures { ReportsWords state.now k out.old result out.new }
 {
     if !is_state(state) {
-        return 5;
+        return Refusal::Judge.number();
     }
     let judge = read_state(state);
     // C gives the number as a word, which has no `From` into an index, but as many bits.
     let reported = judge.report(k as usize);
-    let refusal = number_of(reported.outcome);
-    if refusal != 0 {
-        return refusal;
+    if let Err(refusal) = reported.outcome {
+        return refusal.number();
     }
     if out.len() < REPORT_WORDS {
-        return 8;
+        return Refusal::Output.number();
     }
     write_report(out, 0, reported.report);
-    refusal
+    0
 }

@@ -1,6 +1,7 @@
 // Entering a judge into the tally of a campaign.
 ghost use Rattle.petalchurn.specs.Tallies.{TalliesWords};
 
+use decision::refusal::Refusal;
 use state_words::{is_state, read_state};
 use tally::{enter, number_of};
 
@@ -9,7 +10,7 @@ pub fn petalchurn_tally_enter(state: &[u64], tally: &mut [u8]) -> u64
     ensures { TalliesWords state.now tally.old result tally.new }
 {
     if !is_state(state) {
-        return 5;
+        return Refusal::Judge.number();
     }
     let judge = read_state(state);
     let entered = enter(judge, tally);

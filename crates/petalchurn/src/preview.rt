@@ -37,7 +37,7 @@ fn show<'a>(
     match preview(log, work, rows, n, events, cap, tenant, bytes) {
         Ok(taken) => Ok(taken),
         Err(refusal) => {
-            if refusal.number() == 5 {
+            if refusal == Refusal::Judge {
                 clear(&mut reports[0..ROWS]);
             }
             Err(refusal)
@@ -58,12 +58,12 @@ pub fn petalchurn_preview(
     ensures { PreviewsWords state.now log.now work.now rec.now reports.old ticket.old result reports.new ticket.new }
 {
     if (reports.len() < ROWS) | (ticket.len() < TICKET_SIZE) {
-        return 8;
+        return Refusal::Output.number();
     }
     if !is_state(state) {
         clear(&mut reports[0..ROWS]);
         clear_ticket(ticket);
-        return 5;
+        return Refusal::Judge.number();
     }
     match show(state, log, work, rec, reports) {
         Ok(taken) => {
@@ -83,16 +83,16 @@ pub fn petalchurn_commit(state: &mut [u64], log: &mut [u8], work: &mut [u64], ti
     ensures { CommitsWords state.old log.old work.old ticket.now result state.new log.new work.new }
 {
     if !is_state(state) {
-        return 5;
+        return Refusal::Judge.number();
     }
     // C keeps capacity and count as words, which have no `From` into an index: `as` is proved to lose nothing.
     let cap = state[CAPACITY_WORD] as usize;
     let n = state[COUNT_WORD];
     if !suits(cap, n as usize, log.len(), work.len()) {
-        return 5;
+        return Refusal::Judge.number();
     }
     if !is_current(ticket, n) {
-        return 10;
+        return Refusal::Ticket.number();
     }
     take_into(state, log, work, &ticket[COUNT_SIZE..])
 }

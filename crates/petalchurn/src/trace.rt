@@ -3,6 +3,7 @@ ghost use Rattle.std.specs.Prelude.{◌≡◌, cond, ◌++◌, ◌≤◌, length
 ghost use Rattle.decision.specs.Refusals.{outcome_number};
 ghost use Rattle.petalchurn.specs.Calls.{trace_size, trace_words, TracesWords};
 
+use decision::refusal::Refusal;
 use judge::state::{Judge, number_of};
 use judge::trace::Traced;
 use rows::{ROWS, write_rows};
@@ -12,14 +13,14 @@ use rules::Opening;
 pub const TRACE_WORDS: usize = 2 + ROWS;
 
 // The number of the refused record: 0 where nothing is refused.
-// Both are numbers for C: a refusal of 0 is none, and the record's, an index, has no `From` into a word.
-fn refused_at(refusal: u64, at: usize) -> u64
-    ensures { result ≡ cond (eqb refusal 0) 0 at }
+// It is a word for C, into which an index has no `From`.
+fn refused_at(outcome: Result<(), Refusal>, at: usize) -> u64
+    ensures { result ≡ cond (eqb (outcome_number outcome) 0) 0 at }
 {
-    if refusal == 0 {
-        return 0;
+    match outcome {
+        Ok(()) => 0,
+        Err(_) => at as u64,
     }
-    at as u64
 }
 
 // Writes what a trace came to at the front of a list, and gives the refusal's number.
@@ -29,12 +30,11 @@ fn write_trace(out: &mut [u64], traced: Traced) -> u64
 {
     let judge = traced.judge;
     let reports = judge.reports;
-    let refusal = number_of(traced.outcome);
     // C is given words, into which an index has no `From`.
     out[0] = judge.count as u64;
-    out[1] = refused_at(refusal, traced.at);
+    out[1] = refused_at(traced.outcome, traced.at);
     write_rows(out, 2, reports);
-    refusal
+    number_of(traced.outcome)
 }
 
 // Opens a judge, pushes a trace's records up to the first refusal, and writes what it came to. A refusal is a number, since C is given one.
@@ -48,7 +48,7 @@ pub fn petalchurn_trace(
     ensures { TracesWords (record { tenant = tenant }) log.old work.old trace.now out.old result log.new work.new out.new }
 {
     if out.len() < TRACE_WORDS {
-        return 8;
+        return Refusal::Output.number();
     }
     let opening = Opening { tenant: tenant };
     let traced = Judge::judge_trace(opening, log, work, trace);

@@ -40,6 +40,7 @@ fn verdict_of(word: u64) -> Verdict
     ensures { result ≡ verdict_in word }
 {
     match word {
+        // Kinds of faults begin at 1: a row that begins with 0 is a pass, docs/DECISIONS.md 37.
         0 => Verdict::Pass,
         // A byte, as is required: `as` loses nothing.
         kind => Verdict::Faulted(kind as u8),

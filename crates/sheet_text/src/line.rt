@@ -68,7 +68,7 @@ impl Text<'_> {
     }
 
     // What the last line says of a refusal: nothing where there was none.
-    // It is told by the number that is printed, which is the one that C is given: 0 for none.
+    // The refusal comes as the number that the line prints, since the sheet stands on no crate that has refusals: 0 is the sheet's "none".
     fn push_refused(&mut self, refusal: u64, position: u64)
         requires { self.old.end + 53 ≤ length self.old.out.now }
         ensures { Appended 53 self.old self.new (refused_text refusal position) }

@@ -22,7 +22,8 @@ use rules::CHECKS;
 // The bytes of a tally.
 pub const TALLY_SIZE: usize = WIDTH * PLACES * RECORDS;
 
-// Why an entry was refused.
+// Why an entry was refused. It is no `decision::refusal::Refusal`: a full count is 9, which no call of the judge gives, and the type says
+// which three can come.
 #[derive(Clone, Copy)]
 pub enum Refusal {
     Unfit,
@@ -37,7 +38,8 @@ pub struct Entered {
     pub judge: Judge,
 }
 
-// The number of a refusal, 0 where there was none. No `From` can say it: a `Result` and a number are both std's.
+// The number of a refusal, 0 where there was none. No `From` can say it: a `Result` and a number are both std's. The judge's `number_of` has
+// another type of refusals.
 pub fn number_of(refusal: Result<(), Refusal>) -> u64
     ensures { result ≡ refusal_number refusal }
 {

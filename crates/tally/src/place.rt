@@ -1,4 +1,5 @@
 // The records of a tally and their places: which of them a verdict counts at, and which are used.
+// Kinds are numbers, as the project's scope numbers them and the definitions speak of them.
 ghost use Rattle.std.specs.Prelude.{◌≡◌, ◌≤◌, length};
 ghost use Rattle.rules.specs.Checks.{check_count};
 ghost use Rattle.tally.specs.Counts.{verdict_place, used_places};

@@ -2,6 +2,8 @@
 use mathlib.Core.Path.{◌≡◌, refl, ap, ◌∙◌}
 use mathlib.Core.Bool.{Bool, true, false}
 use mir.Val.{bool_byte}
+use Rattle.std.proofs.Common.{rules}
+use borrow.Author.Tests.{tests}
 use Rattle.history.specs.Logs.{hist}
 use Rattle.history.proofs.Logs.{hist_length}
 use Rattle.judge.specs.Lookups.{found_number, truth}
@@ -45,9 +47,11 @@ returns-in-IsEmpty c =
 pub returns-in-HoldersOf : goal.returns-in-HoldersOf
 returns-in-HoldersOf c =
     let h = c.holders_of in
-    listed_as c.in-HoldersOf.is refl h.ensures.kept (λ i. h.ensures.listed_in i.ids)
+    let same : c.map.result ≡ h.result = search (rules, tests) in
+    rw same (listed_as c.in-HoldersOf.is refl h.ensures.kept (λ i. h.ensures.listed_in i.ids))
 
 pub returns-in-Blocks : goal.returns-in-Blocks
 returns-in-Blocks c =
     let b = c.blocks-in-Blocks in
-    listed_as c.in-Blocks.is refl b.ensures.kept (λ i. b.ensures.listed_in i.ids)
+    let same : c.map-in-Blocks.result ≡ b.result = search (rules, tests) in
+    rw same (listed_as c.in-Blocks.is refl b.ensures.kept (λ i. b.ensures.listed_in i.ids))

@@ -5,7 +5,7 @@ use Rattle.petalchurn.proofs.calls.petalchurn_open.Goals as goal
 pub returns-then-state-ne-STATE_WORDS : goal.returns-then-state-ne-STATE_WORDS
 returns-then-state-ne-STATE_WORDS c =
     let a = c.args in
-    open_short (record { tenant = a.tenant }) a.log.now a.work.now a.state.now c.if-state-ne-STATE_WORDS.true
+    rw c.number.ensures (open_short (record { tenant = a.tenant }) a.log.now a.work.now a.state.now c.if-state-ne-STATE_WORDS.true)
 
 pub returns : goal.returns
 returns c =

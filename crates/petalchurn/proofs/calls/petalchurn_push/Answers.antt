@@ -7,7 +7,7 @@ pub returns-then-not-is_state : goal.returns-then-not-is_state
 returns-then-not-is_state c =
     let a = c.args in
     let none = sym c.is_state.ensures ∙ c.if-not-is_state.true in
-    push_unfit a.state.now a.log.now a.work.now a.rec.now none
+    rw c.number.ensures (push_unfit a.state.now a.log.now a.work.now a.rec.now none)
 
 pub take_into-requires : goal.take_into-requires
 take_into-requires c =

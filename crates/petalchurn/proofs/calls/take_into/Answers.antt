@@ -2,13 +2,13 @@
 use mathlib.Core.Path.{refl, sym}
 use Prim.Native.Nat.{ℕ, ◌+◌, ◌≤◌, ◌<◌}
 use native.Mathlib.Omega.{arith}
-use lib.ListN.{get_or, length-set}
+use lib.ListN.{get_or}
 use mir.Syntax.{w64}
 use mir.Val.{Fits}
 use Rattle.decision.proofs.Decisions.{Room, room_of, refuses}
-use Rattle.state_words.proofs.Headers.{part_size, with_size}
+use Rattle.state_words.proofs.Headers.{part_size}
 use Rattle.state_words.proofs.States.{state_facts}
-use Rattle.petalchurn.proofs.CallLaws.{rows_left, push_left, push_done}
+use Rattle.petalchurn.proofs.CallLaws.{push_left, push_done}
 use Rattle.petalchurn.proofs.calls.take_into.Goals as goal
 
 -- a count below a capacity can be raised

@@ -8,7 +8,7 @@ pub returns-then-not-is_state : goal.returns-then-not-is_state
 returns-then-not-is_state c =
     let a = c.args in
     let none = sym c.is_state.ensures ∙ c.if-not-is_state.true in
-    tally_unfit a.state.now a.tally.now none
+    rw c.number.ensures (tally_unfit a.state.now a.tally.now none)
 
 pub read_state-judge-requires : goal.read_state-judge-requires
 read_state-judge-requires c = state_facts _ (sym c.is_state.ensures ∙ c.if-not-is_state.false)

@@ -18,4 +18,4 @@ returns c =
     let a = c.args in
     let some = sym c.is_state.ensures ∙ c.if-not-is_state.false in
     looked_done a.question a.state.now a.log.now a.work.now a.out.now c.look_up-given.result some c.read_state-judge.ensures
-    c.look_up-given.ensures c.number_of.ensures refl c.answer_of-2.ensures
+    c.look_up-given.ensures refl refl c.answer_of-2.ensures

@@ -11,7 +11,7 @@ pub returns-then-not-is_state : goal.returns-then-not-is_state
 returns-then-not-is_state c =
     let a = c.args in
     let none = sym c.is_state.ensures ∙ c.if-not-is_state.true in
-    commit_unfit a.state.now a.log.now a.work.now a.ticket.now none
+    rw c.number.ensures (commit_unfit a.state.now a.log.now a.work.now a.ticket.now none)
 
 pub bounds-state-0 : goal.bounds-state-0
 bounds-state-0 c = let e = (state_facts c.args.state.now (sym c.is_state.ensures ∙ c.if-not-is_state.false)).size in omega (arith, e)
@@ -23,16 +23,16 @@ pub returns-then-not-suits : goal.returns-then-not-suits
 unfolding judge_in
 returns-then-not-suits c =
     let a = c.args in
-    commit_unsuited a.state.now a.log.now a.work.now a.ticket.now (sym c.is_state.ensures ∙ c.if-not-is_state.false)
-    (sym c.suits.ensures ∙ c.if-not-suits.true)
+    rw c.number-then-not-suits.ensures (commit_unsuited a.state.now a.log.now a.work.now a.ticket.now (sym c.is_state.ensures ∙ c.if-not-is_state.false)
+    (sym c.suits.ensures ∙ c.if-not-suits.true))
 
 pub returns-then-not-is_current : goal.returns-then-not-is_current
 unfolding judge_in
 returns-then-not-is_current c =
     let a = c.args in
-    commit_stale a.state.now a.log.now a.work.now a.ticket.now (sym c.is_state.ensures ∙ c.if-not-is_state.false)
+    rw c.number-then-not-is_current.ensures (commit_stale a.state.now a.log.now a.work.now a.ticket.now (sym c.is_state.ensures ∙ c.if-not-is_state.false)
     (sym c.suits.ensures ∙ c.if-not-suits.false)
-    (sym c.is_current.ensures ∙ c.if-not-is_current.true)
+    (sym c.is_current.ensures ∙ c.if-not-is_current.true))
 
 -- below, the ticket's count is the judge's
 pub slice_bounds-take_into-count : goal.slice_bounds-take_into-count

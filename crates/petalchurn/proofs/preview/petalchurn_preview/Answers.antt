@@ -11,8 +11,8 @@ use Rattle.petalchurn.proofs.preview.petalchurn_preview.Goals as goal
 pub returns-then-reports-ticket : goal.returns-then-reports-ticket
 returns-then-reports-ticket c =
     let a = c.args in
-    preview_short a.state.now a.log.now a.work.now a.rec.now a.reports.now a.ticket.now
-    (no_room a.reports.now a.ticket.now c.if-reports-ticket.true)
+    rw c.number.ensures (preview_short a.state.now a.log.now a.work.now a.rec.now a.reports.now a.ticket.now
+    (no_room a.reports.now a.ticket.now c.if-reports-ticket.true))
 
 pub slice_bounds-clear-end : goal.slice_bounds-clear-end
 slice_bounds-clear-end c =
@@ -27,10 +27,10 @@ pub returns-then-not-is_state : goal.returns-then-not-is_state
 returns-then-not-is_state c =
     let a = c.args in
     let none : is_state a.state.now ≡ false = sym c.is_state.ensures ∙ c.if-not-is_state.true in
-    preview_unfit a.state.now a.log.now a.work.now a.rec.now a.reports.now a.ticket.now
+    rw c.number-then-not-is_state.ensures (preview_unfit a.state.now a.log.now a.work.now a.rec.now a.reports.now a.ticket.now
     (room c.args.reports.now c.args.ticket.now c.if-reports-ticket.false) none
     (front_passes a.reports.now (room_rows a.reports.now a.ticket.now (room c.args.reports.now c.args.ticket.now c.if-reports-ticket.false)) c.clear.ensures)
-    c.clear_ticket.ensures
+    c.clear_ticket.ensures)
 
 pub bounds-state-1 : goal.bounds-state-1
 bounds-state-1 c =
@@ -59,6 +59,6 @@ returns-in-Ok c =
 pub returns-in-Err : goal.returns-in-Err
 returns-in-Err c =
     let a = c.args in
-    rw c.number.ensures (preview_refused a.state.now a.log.now a.work.now a.rec.now a.reports.now a.ticket.now
+    rw c.number-in-Err.ensures (preview_refused a.state.now a.log.now a.work.now a.rec.now a.reports.now a.ticket.now
     (room c.args.reports.now c.args.ticket.now c.if-reports-ticket.false) (sym c.is_state.ensures ∙ c.if-not-is_state.false)
     c.in-Err.ensures.shows (refuses c.in-Err.refusal) c.clear_ticket-in-Err.ensures)

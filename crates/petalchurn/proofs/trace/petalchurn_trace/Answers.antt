@@ -5,7 +5,7 @@ use Rattle.petalchurn.proofs.trace.petalchurn_trace.Goals as goal
 pub returns-then-out-lt-TRACE_WORDS : goal.returns-then-out-lt-TRACE_WORDS
 returns-then-out-lt-TRACE_WORDS c =
     let a = c.args in
-    trace_short (record { tenant = a.tenant }) a.log.now a.work.now a.trace.now a.out.now c.if-out-lt-TRACE_WORDS.true
+    rw c.number.ensures (trace_short (record { tenant = a.tenant }) a.log.now a.work.now a.trace.now a.out.now c.if-out-lt-TRACE_WORDS.true)
 
 pub returns : goal.returns
 returns c =
