@@ -1,6 +1,6 @@
 -- Words read as a judge are that judge's words, and the test of words as facts. Assumes nothing.
 use mathlib.Core.Path.{◌≡◌, refl, ap, ◌∙◌}
-use mathlib.Core.Bool.{Bool, true, false, cond}
+use mathlib.Core.Bool.{Bool, true, false, cond, ◌&&◌}
 use mathlib.Core.List.{List, ◌∷◌}
 use Rattle.std.specs.Prelude.{None, Some}
 use Prim.Native.Nat.{ℕ, ◌*◌}
@@ -8,7 +8,7 @@ use native.Mathlib.Omega.{arith}
 use lib.ListN.{length, get_or, drop, set}
 use lib.Seq.{sets}
 use lib.Dec.{eqb}
-use borrow.Author.Tests.{eqb-true}
+use borrow.Author.Tests.{eqb-true, ne_eqb}
 use Rattle.rules.specs.Checks.{check_count}
 use Rattle.record.proofs.Booleans.{never, and_left, and_right}
 use Rattle.rows.specs.Rows.{rows_size, rows_of, kinds_fit}
@@ -68,6 +68,11 @@ module _ (words : List ℕ) where
 
   pub none_state : state_in words ≡ None → is_state words ≡ false
   none_state e = none_by (is_state words) e
+
+-- words of another length are none
+pub state_size_lem : (words : List ℕ) → (length words ≡ state_size → ⊥) → is_state words ≡ false
+unfolding is_state
+state_size_lem words e = ap (λ (b : Bool). b && kinds_fit words header_size) (ne_eqb (length words) state_size e)
 
 -- a state is the words of its judge
 pub state_words_lem : (words : List ℕ) (j : Judge) → state_in words ≡ Some j → words ≡ state_words j
