@@ -1,6 +1,6 @@
 -- Words read as reports are those words again, and reports written as words read back. Assumes nothing.
 use Rattle.std.specs.Prelude.{map}
-use Rattle.std.specs.List.{list_all, range_with_len}
+use Rattle.std.specs.List.{range_with_len}
 use mathlib.Core.Path.{◌≡◌, refl, sym, ap, ◌∙◌, subst}
 use mathlib.Core.Bool.{true}
 use mathlib.Core.List.{List, [], ◌∷◌, ◌++◌, append_assoc}
@@ -9,7 +9,6 @@ use native.Mathlib.Decide.{ℕ_discrete}
 use Rattle.std.proofs.Common.{add-zero, add_assoc}
 use native.Mathlib.Omega.{arith}
 use borrow.Author.Tests.{leb-true, le-leb}
-use lib.Dec.{leb}
 use lib.ListN.{length, get_or, drop, set, length-append, drop_of_length-le}
 use lib.Seq.{sets, drop-cons, get_or-append-add}
 use Rattle.record.proofs.Lists.{sets_tail}

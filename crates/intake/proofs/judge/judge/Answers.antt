@@ -1,11 +1,6 @@
 -- `judge`: each check steps its own row, one after the other.
-use Rattle.one_owner_per_key.specs.Columns.{OwnersIndexed}
-use Rattle.rules.specs.OneOwnerPerKey.{install_at}
-use Rattle.record.specs.Records.{decode}
-use mathlib.Core.Path.{◌≡◌}
 use Prim.Native.Nat.{◌≤◌}
 use native.Mathlib.Omega.{arith}
-use borrow.Author.Rules.{rules}
 use Rattle.rules.specs.declared.Opening.{Opening}
 use Rattle.rules.specs.Descriptors.{agreement}
 use Rattle.rules.proofs.Concerns.{agreement_none, pass_clear}
