@@ -191,7 +191,9 @@ def main():
     gone = [n for n in a if n not in b]
     label = lambda n: n.split(".")[0].replace("/", "/proofs/")
     print(f"### Theorems and laws that README or docs/ name ({len(a)})\n")
-    print(f"As they stood: {len(same)}; differing in the spelling of an option alone: {len(spelled)} ({', '.join(f'`{n}`' for n in spelled)}); changed: {len(changed)}; gone: {len(gone)}.\n")
+    alone = ", ".join(f"`{n}`" for n in spelled)
+    print(f"As they stood: {len(same)}; differing in the spelling of an option alone: {len(spelled)} ({alone}); "
+          f"changed: {len(changed)}; gone: {len(gone)}.\n")
     for n in changed:
         print(f"`{label(n)}`")
         diff(a[n], b[n])

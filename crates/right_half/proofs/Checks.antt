@@ -59,7 +59,8 @@ module _ (p : Past) (x : TraceRecord) {s : Split} (z : IsSplit p s) (ix : Indexe
 
   module _ (node : ℕ) {r : Bool} {lowest : Option ℕ} (b : is_by node x ≡ true) (took : has_effect Took x ≡ true) (el : lowest ≡ lowest_missing node (taken p))
       (e : r ≡ is_voter node (taken p) (split_of s) && not (has_hold node s.right (taken p)) && not (holds (λ j. ltb j s.right) lowest)) where
-    test_is : is_voter node (taken p) (split_of s) && not (has_hold node s.right (taken p)) && not (holds (λ j. ltb j s.right) (lowest_missing node (taken p))) ≡ r
+    test_is : is_voter node (taken p) (split_of s) && not (has_hold node s.right (taken p))
+        && not (holds (λ j. ltb j s.right) (lowest_missing node (taken p))) ≡ r
     test_is = sym (e ∙ rw el)
 
     -- its right range is the lowest, or it is not

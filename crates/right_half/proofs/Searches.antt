@@ -64,7 +64,8 @@ module _ (log : List ℕ) (n node : ℕ) where
       → is_missing node (hist log n) s.right ≡ true
   unfolding lacks_split
   lacks_missing t s l r h =
-      both (split_owes log n node s t l r refl (and_right (not (has_hold node s.right (hist log n))) _ h)) (and_left (not (has_hold node s.right (hist log n))) _ h)
+      both (split_owes log n node s t l r refl (and_right (not (has_hold node s.right (hist log n))) _ h))
+      (and_left (not (has_hold node s.right (hist log n))) _ h)
 
   pub search_first : {i : ℕ} → i ≡ latest_registering (hist log n) → Searching log n node i None
   search_first e = record {

@@ -61,7 +61,8 @@ fn is_above(right: u64, lowest: Option<u64>) -> bool
 // lowest: the lowest before that.
 fn is_lowest(past: &Past, split: &Split, node: NodeId, lowest: Option<u64>) -> bool
     ensures { let x = decode split.now.record.now in
-        Indexed Known past.now → result ≡ (any_of (λ v. eqb v (server_of node.0 (taken past.now)).0) x.voters && not (has_hold node.0 split.now.right (taken past.now)) && not (holds (λ b. ltb b split.now.right) lowest)) }
+        Indexed Known past.now → result ≡ (any_of (λ v. eqb v (server_of node.0 (taken past.now)).0) x.voters
+        && not (has_hold node.0 split.now.right (taken past.now)) && not (holds (λ b. ltb b split.now.right) lowest)) }
 {
     if is_above(split.right, lowest) {
         return false;
@@ -75,7 +76,9 @@ fn is_lowest(past: &Past, split: &Split, node: NodeId, lowest: Option<u64>) -> b
 // half of a Took of a registered split: the lowest of what the node owed before and of that split's right range.
 fn taken_case(past: &Past, rec: &Record, node: NodeId, split: &Split) -> Option<Fault>
     requires { IsSplit past.now split.now }
-    ensures { Indexed Known past.now → split.now.number ≡ split_number (decode rec.now).a (decode rec.now).b (taken past.now) → is_by node.0 (decode rec.now) ≡ true → has_effect Took (decode rec.now) ≡ true → result ≡ missing_fault 1 node.0 (decode rec.now ∷ taken past.now) }
+    ensures { let x = decode rec.now in
+        Indexed Known past.now → split.now.number ≡ split_number x.a x.b (taken past.now) → is_by node.0 x ≡ true → has_effect Took x ≡ true
+        → result ≡ missing_fault 1 node.0 (x ∷ taken past.now) }
 {
     let lowest = lowest_missing(past, node);
     if is_lowest(past, split, node, lowest) {
@@ -100,7 +103,9 @@ fn applied_case(past: &Past, rec: &Record, node: NodeId) -> Option<Fault>
 // What half says of a record's registering: the lowest node that lacks the right range. `named` is the number of the record that
 // names it: the record itself, or one taken.
 fn registering_case(past: &Past, rec: &Record, named: usize) -> Option<Fault>
-    ensures { Indexed Known past.now → named ≡ named_number (decode rec.now) (taken past.now) → 0 < named → result ≡ case_of (registering_fault (decode rec.now) (taken past.now)) (registers (decode rec.now) (taken past.now)) }
+    ensures { let x = decode rec.now in
+        Indexed Known past.now → named ≡ named_number x (taken past.now) → 0 < named
+        → result ≡ case_of (registering_fault x (taken past.now)) (registers x (taken past.now)) }
 {
     let naming = past.numbered(named).map_or(rec, |old| old.record);
     let split = Split {

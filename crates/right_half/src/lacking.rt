@@ -74,7 +74,8 @@ pub fn lacks_at(past: &Past, node: NodeId, split: &Split) -> bool
 // the parent.
 pub fn lowest_lacking(past: &Past, split: &Split) -> Option<u64>
     ensures { let x = decode split.now.record.now in
-        Indexed Known past.now → registers x (taken past.now) ≡ Some (split_of split.now) → result ≡ lowest_of (λ n. n) (lacks (split_of split.now) x (taken past.now)) (nodes_of (taken past.now)) }
+        Indexed Known past.now → registers x (taken past.now) ≡ Some (split_of split.now)
+        → result ≡ lowest_of (λ n. n) (lacks (split_of split.now) x (taken past.now)) (nodes_of (taken past.now)) }
 {
     let mut best = None;
     for old in recorded_chain(past, parent_of(split.record)) {

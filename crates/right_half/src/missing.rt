@@ -30,7 +30,8 @@ pub fn is_below(right: u64, best: Option<u64>) -> bool
 // tests come first: most splits are of ranges that the node holds, or has no part in.
 fn is_lacking(past: &Past, node: NodeId, ended: usize, refused: usize, split: &Split) -> bool
     requires { IsTaken past.now (taken_of split.now) }
-    ensures { Indexed Known past.now → ended ≡ latest_end node.0 (taken past.now) → refused ≡ refused_number node.0 (taken past.now) → result ≡ lacks_split past.now.log.now past.now.count node.0 (split.now.number - 1) split.now.right }
+    ensures { Indexed Known past.now → ended ≡ latest_end node.0 (taken past.now) → refused ≡ refused_number node.0 (taken past.now)
+        → result ≡ lacks_split past.now.log.now past.now.count node.0 (split.now.number - 1) split.now.right }
 {
     if held_after(past, past.count, node, split.right, ended).is_some() {
         return false;

@@ -107,7 +107,8 @@ module _ {F : Type 0} {g : Mut F (Bor Taken × Unit {0}) Bool} {f : F} (parent i
   read : (y : Taken) → IsTaken p y → is_of parent index (decode y.record.now) ≡ is_of parent index (record_at p.log.now (y.number - 1))
   read y t = ap (is_of parent index) (record_bytes p.log.now (y.number - 1) t.bytes)
 
-  pub split_found : (r : Option Taken) (u : Chain) {c : Chain} → Begins p split_heads split_links (split_bucket p.cap parent index) c → FindsItem Steps g c f r u
+  pub split_found : (r : Option Taken) (u : Chain) {c : Chain} → Begins p split_heads split_links (split_bucket p.cap parent index) c
+      → FindsItem Steps g c f r u
       → number_of r ≡ split_number parent index (hist p.log.now top)
   split_found r u z e =
       find_latest calls (by_split_lem parent index p.cap) top upto ix.1.splits
@@ -130,7 +131,8 @@ module _ (p : Past) (parent index top : ℕ) {old : Taken} (t : IsTaken p old) (
   passes = rw n (number_is (registers_as parent index) p.log.now top (omega (arith, t.some, n)))
 
   pub number_found : (r : Option Split) → IfSome r (λ s. s.number ≡ old.number)
-      → option_map split_of r ≡ registers (record_at p.log.now (old.number - 1)) (hist p.log.now (old.number - 1)) → number_by r ≡ split_number parent index (hist p.log.now top)
+      → option_map split_of r ≡ registers (record_at p.log.now (old.number - 1)) (hist p.log.now (old.number - 1))
+      → number_by r ≡ split_number parent index (hist p.log.now top)
   number_found None here e = never (ap (holds (is_split parent index)) e ∙ passes) refl
   number_found (Some s) here e = here ∙ n
 

@@ -109,7 +109,8 @@ module _ (log : List ℕ) (x : TraceRecord) where
       pub names_none : k ≡ 0 → None ≡ found_at (names_number node x (hist log n))
       names_none z = found_none {n = 0} (rw (← e, t, pending_is node log n, ← f, eq-eqb k 0 z)) refl
 
-      pub names_pending : {u : Bool} → (k ≡ 0 → ⊥) → u ≡ uses_up x (pending_by (record_at log (k - 1))) → cond u (Some k) None ≡ found_at (names_number node x (hist log n))
+      pub names_pending : {u : Bool} → (k ≡ 0 → ⊥) → u ≡ uses_up x (pending_by (record_at log (k - 1)))
+          → cond u (Some k) None ≡ found_at (names_number node x (hist log n))
       names_pending {u} z g =
           elim (decide u) [
             | inl h ↦ rw h (found_at_lem (rw (← e, t, pending_is node log n, ← f, ne_eqb k 0 z, ← g, h)) z)

@@ -54,7 +54,8 @@ fn server_with(past: &Past, rec: &Record, last: usize, node: NodeId) -> u64
 // The number of its latest RangesRestated since a crash; 0, the beginning before any record, where there is none.
 fn restated_with(past: &Past, rec: &Record, last: usize) -> usize
     requires { last ≤ past.now.count }
-    ensures { result ≡ cond (is_kind 5 (decode rec.now)) (past.now.count + 1) (cond (is_kind 6 (decode rec.now)) 0 (number_in (restated_at * past.now.cap) past.now.work.now last)) }
+    ensures { let x = decode rec.now in
+        result ≡ cond (is_kind 5 x) (past.now.count + 1) (cond (is_kind 6 x) 0 (number_in (restated_at * past.now.cap) past.now.work.now last)) }
 {
     match field::kind(rec) {
         5 => past.count + 1,
@@ -92,7 +93,8 @@ fn pending_with(past: &Past, rec: &Record, last: usize) -> usize
 // The numbers are indexes, which have no `From` into a word: `as` is proved to lose nothing.
 fn registered_with(past: &Past, named: Option<usize>) -> u64
     requires { IfSome named (λ k. k ≤ past.now.count + 1) }
-    ensures { (k : ℕ) → named ≡ found_at k → result ≡ 8192 * k + cond (is_some named) (past.now.count + 1) (registering_in past.now.work.now past.now.cap past.now.count) }
+    ensures { (k : ℕ) → named ≡ found_at k
+        → result ≡ 8192 * k + cond (is_some named) (past.now.count + 1) (registering_in past.now.work.now past.now.cap past.now.count) }
 {
     match named {
         Some(number) => (8192 * number + past.count + 1) as u64,
@@ -113,7 +115,8 @@ fn split_with(past: &Past, rec: &Record, named: Option<usize>) -> Option<usize>
 fn recording_with(past: &Past, rec: &Record, last: usize) -> Option<usize>
     requires { last ≤ past.now.count }
     ensures within { IfSome result (λ b. b < past.now.cap) }
-    ensures is { result ≡ when (is_kind 2 (decode rec.now) && eqb (number_in (restated_at * past.now.cap) past.now.work.now last) 0) (recorded_bucket past.now.cap (decode rec.now).a) }
+    ensures is { let x = decode rec.now in
+        result ≡ when (is_kind 2 x && eqb (number_in (restated_at * past.now.cap) past.now.work.now last) 0) (recorded_bucket past.now.cap x.a) }
 {
     let records = (field::kind(rec) == 2) & restatement_by(past, last).is_none();
     let cap = past.cap;

@@ -122,7 +122,8 @@ pub fn split_of<'a>(past: &Past<'a>, top: usize, parent: u64, index: u64) -> Opt
 fn names(past: &Past, rec: &Record, last: usize) -> Option<usize>
     requires { last ≤ past.now.count }
     ensures within { IfSome result (λ k. k ≤ past.now.count + 1) }
-    ensures names { Indexed Known past.now → (node : ℕ) → last ≡ latest_by node (taken past.now) → result ≡ found_at (names_number node (decode rec.now) (taken past.now)) }
+    ensures names { Indexed Known past.now → (node : ℕ) → last ≡ latest_by node (taken past.now)
+        → result ≡ found_at (names_number node (decode rec.now) (taken past.now)) }
 {
     if is_created(rec) {
         return Some(past.count + 1);
@@ -137,7 +138,8 @@ fn names(past: &Past, rec: &Record, last: usize) -> Option<usize>
 pub fn registers(past: &Past, rec: &Record, last: usize) -> Option<usize>
     requires { last ≤ past.now.count }
     ensures within { IfSome result (λ k. k ≤ past.now.count + 1) }
-    ensures names { Indexed Known past.now → (node : NodeId) → (decode rec.now).node ≡ Some node → last ≡ latest_by node.0 (taken past.now) → result ≡ found_at (named_number (decode rec.now) (taken past.now)) }
+    ensures names { Indexed Known past.now → (node : NodeId) → (decode rec.now).node ≡ Some node → last ≡ latest_by node.0 (taken past.now)
+        → result ≡ found_at (named_number (decode rec.now) (taken past.now)) }
 {
     let named = names(past, rec, last)?;
     if split_of(past, past.count, parent_of(rec), field::b(rec)).is_some() {

@@ -21,7 +21,8 @@ returns-then-is_some c =
       | then-is_reached w ↦ search (rules, tests)
       | else-is_reached w ↦
           let o = w.latest_asked in
-          let traces = w.is_some.ensures ∙ traced_found p a.top a.node.0 r c.parent_of-parent.result c.b-index.result o.result o.ensures.found (o.ensures.latest k) in
+          let traces = w.is_some.ensures ∙ traced_found p a.top a.node.0 r c.parent_of-parent.result c.b-index.result o.result o.ensures.found
+          (o.ensures.latest k) in
           search (rules, tests)
     ]) c.if-is_some.true
 
@@ -38,7 +39,8 @@ returns-else-is_some c =
       | then-is_reached w ↦ search (rules, tests)
       | else-is_reached w ↦
           let o = w.latest_asked in
-          let traces = w.is_some.ensures ∙ traced_found p a.top a.node.0 r c.parent_of-parent.result c.b-index.result o.result o.ensures.found (o.ensures.latest k) in
+          let traces = w.is_some.ensures ∙ traced_found p a.top a.node.0 r c.parent_of-parent.result c.b-index.result o.result o.ensures.found
+          (o.ensures.latest k) in
           search (rules, tests)
     ]) c.if-is_some.false
     (c.is_some-else-is_some.ensures ∙ some_number p m.result m.ensures.found

@@ -45,4 +45,5 @@ pub returns : goal.returns
 returns c =
     let a = c.args in
     let p = a.past.now in
-    λ ix f. owed_end p.log.now p.count a.node.0 a.right (walk_over p c.loop-split.invariant.0 c.next.new.self c.in-None.ensures.steps ix) (c.loop-split.invariant.1 ix f)
+    λ ix f. owed_end p.log.now p.count a.node.0 a.right (walk_over p c.loop-split.invariant.0 c.next.new.self c.in-None.ensures.steps ix)
+    (c.loop-split.invariant.1 ix f)

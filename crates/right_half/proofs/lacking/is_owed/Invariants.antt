@@ -9,4 +9,6 @@ use Rattle.right_half.proofs.lacking.is_owed.Given as goal
 
 abbrev pub invariant-loop-split : goal.invariant-loop-split
 invariant-loop-split l =
-    (OnSplits l.past l.split-iterator) × (Indexed Known l.past → l.refused ≡ refused_number l.node.0 (taken l.past) → Unowed l.past.log.now l.past.count l.node.0 l.right l.split-iterator.next)
+    (OnSplits l.past l.split-iterator)
+    × (Indexed Known l.past → l.refused ≡ refused_number l.node.0 (taken l.past)
+    → Unowed l.past.log.now l.past.count l.node.0 l.right l.split-iterator.next)

@@ -27,7 +27,8 @@ loop-old-init c =
     let parent = parent_by (decode s.record.now) in
     let z = rw (c.parent_of.ensures) at (rw (← c.into_iter-old-iterator.ensures.into_iter_gives) at c.recorded_chain-old-items.ensures) in (
       on_first z,
-      λ ix r. lower_first (by_recording p.cap) (recorded_bucket p.cap parent) (lacks (split_of s) (decode s.record.now) (taken p)) p recorded_heads recorded_links
+      λ ix r. lower_first (by_recording p.cap) (recorded_bucket p.cap parent) (lacks (split_of s) (decode s.record.now) (taken p)) p recorded_heads
+          recorded_links
           ix.1.recordings (bucket_below p.cap parent p.positive) z,
     )
 
@@ -43,7 +44,8 @@ loop-old-preserved-then-lacks_at c =
       λ ix r. lower_next (by_recording p.cap) (recorded_bucket p.cap (parent_by (decode s.record.now))) P p recorded_heads recorded_links ix.1.recordings o e
           (c.loop-old.invariant.1 ix r)
           (ap Some c.from-number.ensures
-          ∙ lowered_new m.0 c.loop-old.best (ap (λ (n : ℕ). is_below n c.loop-old.best) (sym c.from-number.ensures) ∙ sym c.is_below.ensures ∙ c.if-is_below.true)
+          ∙ lowered_new m.0 c.loop-old.best (ap (λ (n : ℕ). is_below n c.loop-old.best) (sym c.from-number.ensures) ∙ sym c.is_below.ensures
+          ∙ c.if-is_below.true)
           (sym (c.lacks_at.ensures ix r) ∙ c.if-lacks_at.true)
           ∙ ap (λ (z : Node). lowered_by P z c.loop-old.best) (sym (sym c.node.ensures ∙ c.in-Some-node.is))),
     )

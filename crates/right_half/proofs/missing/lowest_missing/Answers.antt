@@ -59,4 +59,5 @@ loop-split-preserved c =
 pub returns : goal.returns
 returns c =
     let p = c.args.past.now in
-    λ ix. search_end p.log.now p.count c.args.node.0 (walk_over p c.loop-split.invariant.0 c.next.new.self c.in-None.ensures.steps ix) (c.loop-split.invariant.1 ix)
+    λ ix. search_end p.log.now p.count c.args.node.0 (walk_over p c.loop-split.invariant.0 c.next.new.self c.in-None.ensures.steps ix)
+    (c.loop-split.invariant.1 ix)
