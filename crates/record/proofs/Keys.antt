@@ -9,13 +9,15 @@ use native.Mathlib.Decide.{dec_lt}
 use lib.Dec.{eqb}
 use lib.ListN.{length, get_or, take, drop, length-take, length-drop}
 use lib.Seq.{take_all, ext_get_or}
-use borrow.Author.Tests.{lt-ltb, le-ltb, eq-eqb, ne_eqb, eqb-true}
+use borrow.Author.Tests.{lt-ltb, le-ltb, eq-eqb, ne_eqb, eqb-true, eqb-false}
 use Rattle.std.proofs.Common.{nat_eq}
 use Rattle.std.specs.Cmp.Lexicographic.{slice_cmp, pointwise}
 use Rattle.std.specs.Ordering.{nat_cmp, is_lt}
 use Rattle.record.specs.Limits.{key_size, key_limit}
+use Rattle.record.specs.Numbers.{number64}
 use Rattle.record.specs.Keys.{Key, key_in, key_ltb, list_eqb, Lt, Le}
 use Rattle.record.proofs.Booleans.{decide, never, and_left, and_right}
+use Rattle.record.proofs.Numbers.{Bytes, number_same}
 
 -- ---- the key in its place
 
@@ -82,6 +84,45 @@ differ_at xs ys i h = list_eqb_differ xs ys (λ e. h (ap (λ (l : List ℕ). get
 pub equal_all : (xs ys : List ℕ) (i : ℕ) → length xs ≡ length ys → length xs ≤ i → ((k : ℕ) → k < i → get_or xs k 0 ≡ get_or ys k 0)
     → list_eqb xs ys ≡ true
 equal_all xs ys i e m h = list_eqb_equal xs ys (ext_get_or 0 xs ys e (λ k l. h k (omega arith)))
+
+-- two places hold the same bytes where their four words are the same
+module _ (xs ys : List ℕ) (l : length xs ≡ key_size) (m : length ys ≡ key_size) where
+  abbrev words : ℕ → Bool
+  words p = eqb (number64 p xs) (number64 p ys)
+
+  word_differs : (p : ℕ) → words p ≡ false → list_eqb xs ys ≡ false
+  word_differs p e = list_eqb_differ xs ys (λ q. eqb-false (number64 p xs) (number64 p ys) e (ap (number64 p) q))
+
+  word_same : (p k : ℕ) → Bytes xs → Bytes ys → p + 8 ≤ key_size → words p ≡ true → p ≤ k → k < p + 8 → get_or xs k 0 ≡ get_or ys k 0
+  word_same p k b c h e = number_same 8 p k xs ys b c (omega (arith, l)) (omega (arith, m)) (eqb-true _ _ e)
+
+  words_same : Bytes xs → Bytes ys → words 0 ≡ true → words 8 ≡ true → words 16 ≡ true → words 24 ≡ true → list_eqb xs ys ≡ true
+  words_same b c e f g h = equal_all xs ys key_size (l ∙ sym m) (omega (arith, l)) (λ k n. elim (dec_lt k 16) [
+    | yes u ↦ elim (dec_lt k 8) [
+      | yes v ↦ word_same 0 k b c (omega arith) e (omega arith) (omega arith)
+      | no v ↦ word_same 8 k b c (omega arith) f (omega arith) (omega arith)
+    ]
+    | no u ↦ elim (dec_lt k 24) [
+      | yes v ↦ word_same 16 k b c (omega arith) g (omega arith) (omega arith)
+      | no v ↦ word_same 24 k b c (omega arith) h (omega arith) (omega arith)
+    ]
+  ])
+
+  pub places_same : Bytes xs → Bytes ys → words 0 && words 8 && words 16 && words 24 ≡ list_eqb xs ys
+  places_same b c = go (words 0) (words 8) (words 16) (words 24) (words_same b c) (word_differs 0) (word_differs 8) (word_differs 16) (word_differs 24)
+    where
+      go : (p q r s : Bool) → (p ≡ true → q ≡ true → r ≡ true → s ≡ true → list_eqb xs ys ≡ true)
+          → (p ≡ false → list_eqb xs ys ≡ false) → (q ≡ false → list_eqb xs ys ≡ false) → (r ≡ false → list_eqb xs ys ≡ false)
+          → (s ≡ false → list_eqb xs ys ≡ false) → p && q && r && s ≡ list_eqb xs ys
+      go true true true true t e f g h = sym (t refl refl refl refl)
+      go true true true false t e f g h = sym (h refl)
+      go true true false s t e f g h = sym (g refl)
+      go true false r s t e f g h = sym (f refl)
+      go false q r s t e f g h = sym (e refl)
+
+-- and then the same key
+pub places_key : (xs ys : List ℕ) (whole : Bool) → whole && list_eqb xs ys ≡ true → list_eqb (key_in xs) (key_in ys) ≡ true
+places_key xs ys whole e = list_eqb_equal _ _ (ap key_in (list_eqb_same xs ys (and_right whole (list_eqb xs ys) e)))
 
 -- ---- the order of keys
 

@@ -79,6 +79,15 @@ get_d_part a e k s l h =
     let w : a + (k - a) ≡ k = omega arith in
     get_or-take (e - a) (drop a s) (k - a) 0 (omega arith) ∙ get_or-drop a s (k - a) 0 ∙ ap (λ (i : ℕ). get_or s i 0) w
 
+-- where two lists have the same number of n bytes, they have the same bytes
+pub number_same : (n p k : ℕ) (xs ys : List ℕ) → Bytes xs → Bytes ys → p + n ≤ length xs → p + n ≤ length ys
+    → little_endian (part p (p + n) xs) ≡ little_endian (part p (p + n) ys) → p ≤ k → k < p + n → get_or xs k 0 ≡ get_or ys k 0
+number_same n p k xs ys b c l m e u v =
+    let parts : part p (p + n) xs ≡ part p (p + n) ys =
+    little_endian_same (part p (p + n) xs) (part p (p + n) ys) (bytes_part p (p + n) xs b) (bytes_part p (p + n) ys c)
+    (length_part p (p + n) xs l ∙ sym (length_part p (p + n) ys m)) e in
+    sym (get_d_part p (p + n) k xs u v) ∙ ap (λ (s : List ℕ). get_or s (k - p) 0) parts ∙ get_d_part p (p + n) k ys u v
+
 -- the number that std makes of four bytes and of eight
 le_four : (bs : List ℕ) → length bs ≡ 4 → from_le_bytes w32 bs ≡ little_endian bs
 unfolding little_endian
