@@ -67,6 +67,16 @@ pub places_at : (p : List ℕ → Bool) (s : List ℕ) (test : ℕ → Bool)
     → (n : ℕ) → list_all test (range_with_len 0 n) ≡ every p (places_from spans_at n s)
 places_at p s test h n = places_from_at p s test h 0 n
 
+-- a fold over the numbers, which goes on past a place that fails, tests all places
+fold_all : (test : ℕ → Bool) (b : Bool) (xs : List ℕ) → fold (λ fit i. fit && test i) b xs ≡ (b && list_all test xs)
+fold_all test b [] = rw and-true refl
+fold_all test b (x ∷ xs) = fold_all test (b && test x) xs ∙ rw and_assoc refl
+
+pub places_fold : (p : List ℕ → Bool) (s : List ℕ) (test : ℕ → Bool)
+    → ((i : ℕ) → test i ≡ p (part (spans_at + 32 * i) (spans_at + 32 * i + 32) s))
+    → (n : ℕ) → fold (λ fit i. fit && test i) true (range_with_len 0 n) ≡ every p (places_from spans_at n s)
+places_fold p s test h n = fold_all test true (range_with_len 0 n) ∙ places_at p s test h n
+
 -- the length byte of a place is the byte where the place begins
 pub length_byte : (s : List ℕ) (q : ℕ) → get_or s q 0 ≡ get_or (part q (q + 32) s) 0 0
 length_byte s q =

@@ -20,15 +20,27 @@ pub enum Flaw {
     Unused,
 }
 
-// Document 01's number of a flaw. A `From` would not say whose number it is.
-pub fn number_of(flaw: Flaw) -> u8
-    ensures { result ≡ flaw_number flaw }
+impl Flaw {
+    // Document 01's number of a flaw. A `From` would not say whose number it is.
+    pub fn number(self) -> u8
+        ensures { result ≡ flaw_number self }
+    {
+        match self {
+            Flaw::Length => 1,
+            Flaw::Kind => 2,
+            Flaw::Value => 3,
+            Flaw::Unused => 4,
+        }
+    }
+}
+
+// Document 01's number of an answer, 0 where the form is sound.
+pub fn number_of(form: Result<&Record, Flaw>) -> u8
+    ensures { result ≡ form_number form.entry }
 {
-    match flaw {
-        Flaw::Length => 1,
-        Flaw::Kind => 2,
-        Flaw::Value => 3,
-        Flaw::Unused => 4,
+    match form {
+        Ok(_) => 0,
+        Err(flaw) => flaw.number(),
     }
 }
 
@@ -58,12 +70,12 @@ fn counts_fit(rec: &Record, k: Shape) -> bool
         & is_within(k.spans, rec[49])
 }
 
-// Whether each of the first n keys has a length byte within the limit.
+// Whether each of the first n keys has a length byte within the limit. Here too a fold leaves only at the end.
 fn lengths_fit(rec: &Record, n: usize) -> bool
     requires { n ≤ 8 }
     ensures { result ≡ every length_fits (places_from spans_at n rec.now) }
 {
-    (0..n).all(|i| rec[SPANS_AT + KEY_SIZE * i] <= KEY_LIMIT)
+    (0..n).fold(true, |fit, i| fit & (rec[SPANS_AT + KEY_SIZE * i] <= KEY_LIMIT))
 }
 
 // Refusal 3: whether every value is one of the kind's.
@@ -107,9 +119,9 @@ fn are_padded(rec: &Record, n: usize) -> bool
     ensures { result ≡ every padded (places_from spans_at n rec.now) }
 {
     let bits = padding_bits();
-    (0..n).all(|i| {
+    (0..n).fold(true, |clear, i| {
         let at = SPANS_AT + KEY_SIZE * i;
-        is_padded(&rec[at..at + KEY_SIZE], &bits)
+        clear & is_padded(&rec[at..at + KEY_SIZE], &bits)
     })
 }
 

@@ -103,7 +103,7 @@ fn full(kind: u8) -> Sample {
 
 // The refusal that the form of some bytes draws, after what stands on the line.
 fn tell(rt: &impl Print, bytes: &[u8]) -> io::Result<()> {
-    let number = record_of(bytes).err().map_or(0, number_of);
+    let number = number_of(record_of(bytes));
     print!(rt; " {number}")
 }
 

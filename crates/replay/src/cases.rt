@@ -10,7 +10,7 @@ fn is_right<R: Read>(file: &mut R, size: u16) -> Option<bool> {
     let refusal = read::one(file)?;
     let mut buffer = [0u8; 512];
     let bytes = read::front(file, &mut buffer, usize::from(size))?;
-    Some(record_of(bytes).err().map_or(0, number_of) == refusal)
+    Some(number_of(record_of(bytes)) == refusal)
 }
 
 // The next case of the file: whether it came out right.
