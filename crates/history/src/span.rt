@@ -15,7 +15,7 @@ fn key_at(rec: &Record, k: usize, offset: usize) -> &[u8]
     ensures { result.now ≡ cond (leb (length (decode rec.now).spans) k) [] (part (112 + 64 * k + offset) (144 + 64 * k + offset) rec.now) }
 {
     if span_count(rec) <= k {
-        return &[];
+        return &rec[0..0];
     }
     let at = SPANS_AT + SPAN_SIZE * k + offset;
     &rec[at..at + KEY_SIZE]
