@@ -54,7 +54,15 @@ fn is_met(past: &Past, node: NodeId, range: u64, ended: usize, rec: &Record, k: 
     held_after(past, past.count, node, range, ended).is_some_and(|held| meets(rec, k, held.record))
 }
 
-// The lowest range that may not be met and that a node holds over a span that meets the record's.
+// Whether a range is below the lowest so far.
+fn is_below(range: u64, best: Option<u64>) -> bool
+    ensures { result ≡ answer.is_below range best }
+{
+    best.is_none_or(|b| range < b)
+}
+
+// The lowest range that may not be met and that a node holds over a span that meets the record's. The cheap tests come first: a
+// range that is not below the lowest so far is not looked back for.
 pub fn lowest_meeting(
     past: &Past,
     node: NodeId,
@@ -67,10 +75,15 @@ pub fn lowest_meeting(
 {
     let newly = NewlyHeld::of(past, node);
     let ended = newly.ended;
-    newly
-        .map(|old| field::a(old.record))
-        .filter(|range| {
-            passes(rec, others, *range) && is_met(past, node, *range, ended, rec, k)
-        })
-        .min()
+    let mut best = None;
+    for old in newly {
+        let range = field::a(old.record);
+        if is_below(range, best)
+            && passes(rec, others, range)
+            && is_met(past, node, range, ended, rec, k)
+        {
+            best = Some(range);
+        }
+    }
+    best
 }
