@@ -52,24 +52,25 @@ pub fn end_by(past: &Past, last: usize) -> usize
 
 // The number of the latest record before this one at which its node newly held a range, 0 where there is none: as the words hold it.
 // A word has no `From` into an index: `as` is proved to lose nothing.
-pub fn newly_before(past: &Past, k: usize) -> usize
-    requires { (0 < k) × (k ≤ past.now.cap) }
-    ensures { (result < k) × (result ≡ before_in past.now.work.now past.now.cap k) }
+// The work area alone is asked for: what stands there is read without the log.
+pub fn newly_before(work: &[u64], cap: usize, k: usize) -> usize
+    requires { (32 * cap ≤ length work.now) × ((0 < k) × ((k ≤ cap) × (cap ≤ 4096))) }
+    ensures { (result < k) × (result ≡ before_in work.now cap k) }
 {
-    no_later((past.word(NEWLY_HELD, k - 1) / 2) as usize, k - 1)
+    no_later((work[NEWLY_HELD * cap + (k - 1)] / 2) as usize, k - 1)
 }
 
 // The number of the latest record up to this one at which its node newly held a range, 0 where there is none.
 // `last` too is 0 for the beginning before any record, of which there is no word.
-pub fn latest_newly(past: &Past, last: usize) -> usize
-    requires { last ≤ past.now.cap }
-    ensures { (result ≤ last) × (result ≡ newest_in past.now.work.now past.now.cap last) }
+pub fn latest_newly(work: &[u64], cap: usize, last: usize) -> usize
+    requires { (32 * cap ≤ length work.now) × ((last ≤ cap) × (cap ≤ 4096)) }
+    ensures { (result ≤ last) × (result ≡ newest_in work.now cap last) }
 {
     if last == 0 {
         0
-    } else if past.word(NEWLY_HELD, last - 1) % 2 == 1 {
+    } else if work[NEWLY_HELD * cap + (last - 1)] % 2 == 1 {
         last
     } else {
-        newly_before(past, last)
+        newly_before(work, cap, last)
     }
 }

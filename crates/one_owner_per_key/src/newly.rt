@@ -28,7 +28,7 @@ impl<'a> NewlyHeld<'a> {
         let last = latest_of(past, past.count, node);
         NewlyHeld {
             past: *past,
-            next: latest_newly(past, last),
+            next: latest_newly(past.work, past.cap, last),
             ended: end_by(past, last),
         }
     }
@@ -49,7 +49,7 @@ impl<'a> Iterator for NewlyHeld<'a> {
             return None;
         }
         let taken = self.past.numbered(self.next)?;
-        self.next = newly_before(&self.past, self.next);
+        self.next = newly_before(self.past.work, self.past.cap, self.next);
         Some(taken)
     }
 }

@@ -69,7 +69,7 @@ fn cells_of(past: &Past, rec: &Record, node: NodeId) -> Cells
     let ended = end_by(past, last);
     let newly = is_newly_held(past, rec, node, ended);
     Cells {
-        newly: 2 * latest_newly(past, last) as u64 + u64::from(newly),
+        newly: 2 * latest_newly(past.work, past.cap, last) as u64 + u64::from(newly),
         ended: end_with(rec, past.count, ended) as u64,
     }
 }
