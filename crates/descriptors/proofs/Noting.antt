@@ -19,10 +19,10 @@ use Rattle.rules.proofs.Placed.{any_earliest, any_latest}
 use Rattle.rules.proofs.Roles.{puts_entry, states_entry, put_generation}
 use Rattle.rules.proofs.Standing.{standing_cons, stated_cons}
 use Rattle.history.specs.Places.{applied_heads, applied_links, standing_heads, standing_links, stated_heads, stated_links, generation_heads, generation_links, counts}
-use Rattle.history.specs.Columns.{Column, cell_of, Chained, Put}
+use Rattle.history.specs.Columns.{Column, cell_of, Chained, Put, clamp}
 use Rattle.history.specs.declared.walk.Taken.{Taken}
 use Rattle.history.proofs.Cells.{cell_new, Same, put_apart, column_agrees, column_put, Zeros, column_clear}
-use Rattle.history.proofs.Chains.{chained_agrees, chained_clear}
+use Rattle.history.proofs.Chains.{chained_agrees, chained_clear, clamped}
 use Rattle.history.proofs.Entries.{Below, length_if, word_if, same_if, chain_if, step_if}
 use Rattle.history.proofs.Mixing.{one_below, two_below}
 use Rattle.history.specs.Buckets.{bucket_by, bucket_by_two}
@@ -188,14 +188,22 @@ word_rest : (c : ℕ) (b : Bool) → c ≤ 8193 → (c + cond b 16384 0) % 16384
 word_rest c true l = omega arith
 word_rest c false l = omega arith
 
-pub counts_some : {cap : ℕ} {work : List ℕ} (h : History) (n : ℕ) → length h ≡ n → (n ≡ 0 → ⊥) → n ≤ cap → cap ≤ 4096 → DescriptorsIndexed cap h work
-    → get_or work (counts * cap + (n - 1)) 0 % 16384 ≡ counts_of h
-counts_some [] n e z l m k = absurd (z (omega (arith, e)))
-counts_some (x ∷ h) n e z l m k =
+-- a word is no greater than the mark with the counts of 4096 statements and a value
+word_bound : (c : ℕ) (b : Bool) → c ≤ 8193 → c + cond b 16384 0 ≤ 24577
+word_bound c true l = omega arith
+word_bound c false l = omega arith
+
+pub counts_some : {cap : ℕ} {work : List ℕ} (h : History) (n : ℕ) {r : ℕ} → length h ≡ n → (n ≡ 0 → ⊥) → n ≤ cap → cap ≤ 4096 → DescriptorsIndexed cap h work
+    → r ≡ clamp (get_or work (counts * cap + (n - 1)) 0) 24577 → r % 16384 ≡ counts_of h
+counts_some [] n e z l m k q = absurd (z (omega (arith, e)))
+counts_some {cap} {work} (x ∷ h) n e z l m k q =
     let p : length h ≡ n - 1 = omega (arith, e) in
-    ap (λ (w : ℕ). w % 16384)
+    let w : counts_of (x ∷ h) ≤ 8193 = omega (arith, counts_bound (x ∷ h), e) in
+    ap (λ (v : ℕ). v % 16384)
+    (q ∙ clamped (get_or work (counts * cap + (n - 1)) 0) (counts_after x h) 24577
     (k.counts.word (n - 1) (omega arith) ∙ ap (cell_of counts_after (x ∷ h)) (sym p) ∙ cell_new counts_after x h)
-    ∙ word_rest (counts_of (x ∷ h)) (is_rising x h) (omega (arith, counts_bound (x ∷ h), e))
+    (word_bound (counts_of (x ∷ h)) (is_rising x h) w))
+    ∙ word_rest (counts_of (x ∷ h)) (is_rising x h) w
 
 half_go : (L : ℕ) (b : Bool) → (2 * L + cond b 0 1) / 2 ≡ L
 half_go L true = omega arith

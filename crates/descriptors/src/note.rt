@@ -177,7 +177,7 @@ pub fn note(log: &[u8], work: &mut [u64], count: usize, cap: usize, rec: &Record
         cap,
     };
     let told = told_of(&past, rec);
-    let after = counts_next(counts(&past), told);
+    let after = counts_next(counts(work, count, cap), told);
     enter_all(work, count, cap, rec, told);
     put(work, COUNTS * cap + count, word(after, told.rises()));
 }

@@ -37,7 +37,9 @@ fn is_rest_below(past: &Past, old: &Taken, range: u64, index: u64) -> bool
     ensures { let v = put_entry old.now in
         result ≡ leb 16384 (get_or past.now.work.now (counts * past.now.cap + (old.now.number - 1)) 0) && eqb v.range range && leb v.index index }
 {
-    is_rising(past, old) & (a(old.record) == range) & (index_of(old) <= index)
+    is_rising(past.work, past.cap, old.number - 1)
+        & (a(old.record) == range)
+        & (index_of(old) <= index)
 }
 
 // Whether a value is of a generation, where one is asked for.
@@ -90,7 +92,7 @@ pub fn greatest<'a>(
     for old in standing(past, range) {
         if is_up_to(&old, range, index, generation) {
             best = better(best, old, |kept, next| next < kept);
-            if is_rising(past, &old) {
+            if is_rising(past.work, past.cap, old.number - 1) {
                 return best;
             }
         }
