@@ -34,7 +34,7 @@ impl<'a> Iterator for Names<'a> {
             number: self.next,
             record: self.past.record(at),
         };
-        self.next = name_before(&self.past, at);
+        self.next = name_before(self.past.work, self.past.cap, at);
         Some(name)
     }
 }
@@ -49,7 +49,7 @@ impl<'a> Names<'a> {
     {
         Names {
             past: *past,
-            next: name_before(past, past.count),
+            next: name_before(past.work, past.cap, past.count),
         }
     }
 }

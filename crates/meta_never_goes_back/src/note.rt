@@ -23,7 +23,7 @@ fn name_with(past: &Past, rec: &Record) -> usize
     if is_won(rec) {
         past.count + 1
     } else {
-        name_before(past, past.count)
+        name_before(past.work, past.cap, past.count)
     }
 }
 

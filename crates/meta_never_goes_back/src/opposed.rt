@@ -80,7 +80,7 @@ pub fn is_highest(past: &Past, rec: &Record) -> bool
         if !does_surpass(rec, old.record) {
             return false;
         }
-        if is_marked(past, &old) {
+        if is_marked(past.work, past.cap, old.number - 1) {
             return true;
         }
     }
@@ -96,7 +96,7 @@ pub fn any_opposed(past: &Past, rec: &Record) -> bool
 {
     for old in Names::new(past) {
         if does_surpass(rec, old.record) {
-            if is_marked(past, &old) {
+            if is_marked(past.work, past.cap, old.number - 1) {
                 return false;
             }
         } else if does_oppose(rec, old.record) {
