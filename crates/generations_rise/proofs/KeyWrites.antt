@@ -4,7 +4,7 @@ use mathlib.Core.Bool.{Bool, true, false, ◌&&◌}
 use mathlib.Core.List.{List, [], ◌∷◌}
 use Rattle.std.proofs.lemmas.Option.{same_Some}
 use Rattle.std.specs.Prelude.{Option, None, Some}
-use Prim.Native.Nat.{ℕ, zero, suc, ◌+◌, ◌*◌, ◌-◌}
+use Prim.Native.Nat.{ℕ, zero, suc, ◌+◌, ◌*◌, ◌-◌, ◌≤◌, ◌<◌}
 use native.Mathlib.Omega.{arith}
 use lib.ListN.{length, get_or}
 use Rattle.record.specs.Keys.{Key, key_eqb}
@@ -201,9 +201,7 @@ pub last_is : (key : Key) (log : List ℕ) (n : ℕ) → LastIs log (latest_of (
 last_is key log zero = rw (hist_none log) (none_last key log)
 last_is key log (suc n) = rw (hist_suc log n) (last_step key log n (last_is key log n))
 
--- the word of a record taken
-pub written_is : {p : Past} {y : Taken} → IsTaken p y → GenerationsIndexed p.cap (hist p.log.now p.count) p.work.now
-    → get_or p.work.now (written_at * p.cap + (y.number - 1)) 0 ≡ generation_by (record_at p.log.now (y.number - 1)) (hist p.log.now (y.number - 1))
-written_is {p} {y} t i =
-    i.written.word (y.number - 1) (omega (arith, t.some, t.within, p.within))
-    ∙ cell_at generation_by p.log.now p.count (y.number - 1) (omega (arith, t.some, t.within))
+-- the word of the record at a place
+pub written_is : (log : List ℕ) {cap count at : ℕ} {work : List ℕ} → at < count → count ≤ cap → GenerationsIndexed cap (hist log count) work
+    → get_or work (written_at * cap + at) 0 ≡ generation_by (record_at log at) (hist log at)
+written_is log {count = count} {at = at} l m i = i.written.word at (omega arith) ∙ cell_at generation_by log count at l

@@ -1,10 +1,10 @@
 // The columns of `GenerationsRise`: a key's last write that has a generation, found along the key's chain, and that generation.
-ghost use Rattle.std.specs.Prelude.{◌≡◌, ◌-◌};
+ghost use Rattle.std.specs.Prelude.{◌≡◌, List, ℕ, ◌*◌, ◌≤◌, ◌<◌, length};
 ghost use Rattle.record.specs.Keys.{key_in, key_eqb};
 ghost use Rattle.record.specs.Records.{decode};
 ghost use Rattle.rules.specs.Descriptors.{span_of};
 ghost use Rattle.history.specs.Logs.{record_at, hist};
-ghost use Rattle.history.specs.Pasts.{taken, Indexed, IsTaken, IsFound, number_of};
+ghost use Rattle.history.specs.Pasts.{taken, Indexed, IsFound, number_of};
 ghost use Rattle.generations_rise.specs.Columns.{GenerationsIndexed, generation_by, last_write_at};
 
 use crate::key::bucket_by_key;
@@ -32,13 +32,12 @@ pub fn last_write_at<'a>(past: &Past<'a>, place: &[u8]) -> Option<Taken<'a>>
         .find(|old| has_key(old.record, place))
 }
 
-// The generation of the write of a record taken.
+// The generation of the write of the record at a place. It is lent the work area alone: it needs no log, as a `Past` does.
 #[tactic(auto, using(crate::proofs::KeyWrites::written_is))]
-pub fn written_at(past: &Past, old: &Taken) -> u64
-    requires { IsTaken past.now old.now }
-    ensures { let at = old.now.number - 1 in
-        let log = past.now.log.now in
-        Indexed GenerationsIndexed past.now → result ≡ generation_by (record_at log at) (hist log at) }
+pub fn written_at(work: &[u64], cap: usize, at: usize) -> u64
+    requires { (32 * cap ≤ length work.now) × ((at < cap) × (cap ≤ 4096)) }
+    ensures { (log : List ℕ) (count : ℕ) → at < count → count ≤ cap → GenerationsIndexed cap (hist log count) work.now
+        → result ≡ generation_by (record_at log at) (hist log at) }
 {
-    past.word(WRITTEN_AT, old.number - 1)
+    work[WRITTEN_AT * cap + at]
 }

@@ -36,7 +36,7 @@ fn rise_case(past: &Past, rec: &Record, generation: u64) -> Option<Fault>
     let write = last_write_at(past, start_of(rec, 0))?;
     let range = a(rec);
     let by = a(write.record);
-    let last = written_at(past, &write);
+    let last = written_at(past.work, past.cap, write.number - 1);
     if is_against(range, generation, by, last) {
         return Some(Fault::new(2, &[range, b(rec), generation, last, by]));
     }
