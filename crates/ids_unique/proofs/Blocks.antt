@@ -5,14 +5,12 @@ use mathlib.Core.List.{List, [], ◌∷◌}
 use Rattle.std.specs.Prelude.{Option, None, Some}
 use Prim.Native.Nat.{ℕ, ◌+◌, ◌*◌, ◌-◌, ◌≤◌, ◌<◌}
 use native.Mathlib.Omega.{arith}
-use native.Mathlib.Decide.{ℕ_discrete}
-use borrow.Author.Tests.{eq-eqb, ne_eqb}
 use lib.ListN.{get_or}
 use Rattle.record.specs.Records.{TraceRecord}
 use Rattle.rules.specs.History.{History, when, given, those, firsts}
 use Rattle.rules.specs.IdsUnique.{Grant, grant_by, nonempty, first_grants, blocks_of}
 use Rattle.history.specs.Logs.{hist}
-use Rattle.history.specs.Columns.{Column, cell_of, latest_in, clamp, number_in}
+use Rattle.history.specs.Columns.{Column, cell_of, latest_in, clamp}
 use Rattle.history.specs.Places.{block_links, greatest_last}
 use Rattle.history.proofs.Logs.{hist_less}
 use Rattle.rules.proofs.Tellings.{when_value, when_holds}
@@ -116,13 +114,6 @@ module _ (log : List ℕ) {cap count n : ℕ} {work : List ℕ} (l : n ≤ count
   pub link_none : n ≡ 0 → 0 ≡ latest_block (hist log n)
   unfolding latest_in
   link_none e = sym (look_end latest_block log e)
-
-  pub link_read : number_in (block_links * cap) work n ≡ latest_block (hist log n)
-  link_read =
-      elim (ℕ_discrete n 0) [
-        | yes e ↦ rw (eq-eqb n 0 e) (link_none e)
-        | no e ↦ rw (ne_eqb n 0 e) (link_is (omega arith))
-      ]
 
   pub last_none : n ≡ 0 → 0 ≡ greatest_of_lasts (blocks_of (hist log n))
   unfolding greatest_of_lasts

@@ -1,10 +1,10 @@
 // The blocks of the records taken: a walk from the newest on, and a new block weighed against the older ones.
-ghost use Rattle.std.specs.Prelude.{◌≡◌};
+ghost use Rattle.std.specs.Prelude.{◌≡◌, cond, leb, Some};
 ghost use Rattle.record.specs.Records.{decode};
 ghost use Rattle.rules.specs.IdsUnique.{grant_by, blocks_of};
 ghost use Rattle.history.specs.Pasts.{taken, Indexed};
 ghost use Rattle.ids_unique.specs.Columns.{IdsIndexed};
-ghost use Rattle.ids_unique.specs.Sharing.{shares_with, shared_top};
+ghost use Rattle.ids_unique.specs.Sharing.{or_max, shares_with, weigh, weighed};
 ghost use Rattle.ids_unique.specs.Walks.{FromLatest};
 
 use crate::cells::block_below;
@@ -14,6 +14,14 @@ use history::walk::Chain;
 use record::Record;
 use record::field::{d, e};
 
+// What a walk from block to block finds of a new block: whether one shares an id with it, and the greatest first not above its
+// last, also where none does.
+#[derive(Clone, Copy)]
+pub struct Shared {
+    pub any: bool,
+    pub top: Option<u64>,
+}
+
 // The records with a block, from the newest on. A word has the latest block with its own record, and a walk goes on to the
 // latest before: so the links begin one word before their column.
 pub fn blocks_taken<'a>(past: &Past<'a>) -> Chain<'a>
@@ -22,7 +30,7 @@ pub fn blocks_taken<'a>(past: &Past<'a>) -> Chain<'a>
     Chain {
         log: past.log,
         links: &past.work[BLOCK_LINKS * past.cap - 1..],
-        next: block_below(past, past.count),
+        next: block_below(past.work, past.cap, past.count),
     }
 }
 
@@ -33,15 +41,33 @@ fn shares(rec: &Record, first: u64, last: u64) -> bool
     (d(rec) <= last) & (first <= e(rec))
 }
 
-// Where a block shares an id with one from first to last: the greatest first of a block that is not above the last.
-pub fn shared_with(past: &Past, first: u64, last: u64) -> Option<u64>
-    ensures { Indexed IdsIndexed past.now → result ≡ shared_top first last (blocks_of (taken past.now)) }
+// The greatest first not above a last, with one block more.
+fn risen(top: Option<u64>, from: u64, last: u64) -> Option<u64>
+    ensures { result ≡ cond (leb from last) (Some (or_max from top)) top }
 {
-    if !blocks_taken(past).any(|old| shares(old.record, first, last)) {
-        return None;
+    if from <= last {
+        Some(top.map_or(from, |top| from.max(top)))
+    } else {
+        top
     }
-    blocks_taken(past)
-        .map(|old| d(old.record))
-        .filter(|from| *from <= last)
-        .max()
+}
+
+fn weighed(found: Shared, rec: &Record, first: u64, last: u64) -> Shared
+    ensures { result ≡ weigh first last found (grant_by (decode rec.now)) }
+{
+    Shared {
+        any: found.any | shares(rec, first, last),
+        top: risen(found.top, d(rec), last),
+    }
+}
+
+// Weighs every block against one from first to last, in one walk.
+pub fn shared_with(past: &Past, first: u64, last: u64) -> Shared
+    ensures { Indexed IdsIndexed past.now → result ≡ weighed first last (blocks_of (taken past.now)) }
+{
+    let none = Shared {
+        any: false,
+        top: None,
+    };
+    blocks_taken(past).fold(none, |found, old| weighed(found, old.record, first, last))
 }

@@ -43,10 +43,14 @@ fn first_case(past: &Past, rec: &Record) -> Option<Fault>
     if last < first {
         return Some(Fault::new(2, &[b(rec)]));
     }
-    if greatest_last(past, past.count) < first {
+    if greatest_last(past.work, past.cap, past.count) < first {
         return None;
     }
-    shared_with(past, first, last).map(|top| Fault::new(3, &[b(rec), top]))
+    let found = shared_with(past, first, last);
+    if found.any {
+        return found.top.map(|top| Fault::new(3, &[b(rec), top]));
+    }
+    None
 }
 
 // The ids case of a record over the records taken.

@@ -42,7 +42,7 @@ fn link_after(past: &Past, block: bool) -> u64
     if block {
         past.count as u64 + 1
     } else {
-        block_below(past, past.count) as u64
+        block_below(past.work, past.cap, past.count) as u64
     }
 }
 
@@ -50,7 +50,7 @@ fn link_after(past: &Past, block: bool) -> u64
 fn last_after(past: &Past, block: bool, last: u64) -> u64
     ensures { Indexed IdsIndexed past.now → result ≡ cond block (max last (greatest_of_lasts (blocks_of (taken past.now)))) (greatest_of_lasts (blocks_of (taken past.now))) }
 {
-    let top = greatest_last(past, past.count);
+    let top = greatest_last(past.work, past.cap, past.count);
     if block { top.max(last) } else { top }
 }
 

@@ -1,7 +1,11 @@
 -- The word as of the record before, which the column gives.
 use mathlib.Core.Path.{◌∙◌}
-use Rattle.ids_unique.proofs.Blocks.{link_read}
+use native.Mathlib.Omega.{arith}
+use Rattle.ids_unique.proofs.Blocks.{link_is, link_none}
 use Rattle.ids_unique.proofs.cells.block_below.Goals as goal
 
-pub returns-clause-latest : goal.returns-clause-latest
-returns-clause-latest c = λ l k. c.number_as_of.ensures.1 ∙ link_read _ l c.args.past.now.within k
+pub returns-then-n-eq0-clause-latest : goal.returns-then-n-eq0-clause-latest
+returns-then-n-eq0-clause-latest c = λ log count l m k. link_none log l m k c.if-n-eq0.true
+
+pub returns-else-n-eq0-clause-latest : goal.returns-else-n-eq0-clause-latest
+returns-else-n-eq0-clause-latest c = λ log count l m k. c.link.ensures.1 ∙ link_is log l m k (omega arith)
