@@ -3,6 +3,7 @@ pub mod Blocks
 pub mod Walks
 pub mod Sharing
 pub mod Order
+pub mod Settling
 pub mod Filling
 pub mod Words
 pub mod Cases
