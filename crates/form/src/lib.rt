@@ -75,7 +75,10 @@ fn lengths_fit(rec: &Record, n: usize) -> bool
     requires { n ≤ 8 }
     ensures { result ≡ every length_fits (places_from spans_at n rec.now) }
 {
-    (0..n).fold(true, |fit, i| fit & (rec[SPANS_AT + KEY_SIZE * i] <= KEY_LIMIT))
+    (0..n).fold(
+        true,
+        |fit, i| fit & (rec[SPANS_AT + KEY_SIZE * i] <= KEY_LIMIT),
+    )
 }
 
 // Refusal 3: whether every value is one of the kind's.
