@@ -60,8 +60,8 @@ fn answer(past: &Past, question: Question, out: &mut [u64]) -> Option<u64>
             let first = first_at_generation(past, range, generation);
             Some(found_number(first))
         }
-        Question::Statements => Some(statements(past)),
-        Question::IsEmpty => Some(u64::from(is_empty(past))),
+        Question::Statements => Some(statements(past.work, past.count, past.cap)),
+        Question::IsEmpty => Some(u64::from(is_empty(past.work, past.count, past.cap))),
         Question::HoldersOf(id) => holders_of(past, id, out).map(|count| count as u64),
         Question::Blocks => blocks(past, out).map(|count| count as u64),
     }
