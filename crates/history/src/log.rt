@@ -3,6 +3,7 @@ ghost use Rattle.std.specs.Prelude.{◌≡◌, ◌+◌, ◌*◌, ◌≤◌, leng
 ghost use Rattle.history.specs.Logs.{bytes_at, Appended};
 
 use record::Record;
+use record::copy::copy_items;
 use record::limits::RECORD_SIZE;
 
 // The record at a place.
@@ -21,5 +22,5 @@ pub fn append(log: &mut [u8], count: usize, rec: &Record)
     ensures { Appended log.old log.new count rec.now }
 {
     let at = RECORD_SIZE * count;
-    log[at..at + RECORD_SIZE].copy_from_slice(rec);
+    copy_items(&mut log[at..at + RECORD_SIZE], rec);
 }

@@ -2,6 +2,7 @@
 #![tactic(auto)]
 
 pub mod code;
+pub mod copy;
 pub mod field;
 pub mod key;
 pub mod limits;

@@ -6,6 +6,7 @@ ghost use Rattle.rows.specs.Rows.{rows_size};
 ghost use Rattle.state_words.specs.StateWords.{header_size, state_size, state_words, judge_in, is_state, IsState};
 
 use judge::state::Judge;
+use record::copy::copy_items;
 use rows::{ROWS, kinds_fit, read_rows, write_rows};
 use rules::Opening;
 
@@ -65,5 +66,5 @@ pub fn copy_rows(state: &[u64], out: &mut [u64])
     requires { (length state.now ≡ state_size) × (rows_size ≤ length out.old) }
     ensures { out.new ≡ drop header_size state.now ++ drop rows_size out.old }
 {
-    out[..ROWS].copy_from_slice(&state[HEADER..]);
+    copy_items(&mut out[..ROWS], &state[HEADER..]);
 }

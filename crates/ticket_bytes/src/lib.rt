@@ -5,6 +5,7 @@ ghost use Rattle.std.specs.Prelude.{◌≡◌, ◌++◌, ◌≤◌, length, drop
 ghost use Rattle.ticket_bytes.specs.TicketBytes.{ticket_size, ticket_bytes, is_current};
 
 use record::Record;
+use record::copy::copy_items;
 use record::limits::RECORD_SIZE;
 use record::number::{u64_at, write_number};
 
@@ -19,7 +20,7 @@ pub fn write_ticket(out: &mut [u8], count: u64, rec: &Record)
     ensures { out.new ≡ ticket_bytes count rec.now ++ drop ticket_size out.old }
 {
     write_number(out, 0, COUNT_SIZE, count);
-    out[COUNT_SIZE..TICKET_SIZE].copy_from_slice(rec);
+    copy_items(&mut out[COUNT_SIZE..TICKET_SIZE], rec);
 }
 
 // Writes a ticket of zeros.

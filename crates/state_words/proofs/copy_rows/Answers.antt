@@ -3,5 +3,5 @@ use Rattle.std.proofs.Common.{length-drop, arith}
 use Rattle.std.proofs.lemmas.List.{length-take}
 use Rattle.state_words.proofs.copy_rows.Goals as goal
 
-pub copy_from_slice-requires : goal.copy_from_slice-requires
-copy_from_slice-requires c = simp (length-take, length-drop) (omega arith)
+pub copy_items-requires : goal.copy_items-requires
+copy_items-requires c = simp (length-take, length-drop) (omega arith)

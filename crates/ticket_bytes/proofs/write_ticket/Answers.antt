@@ -4,4 +4,4 @@ use Rattle.ticket_bytes.proofs.write_ticket.Goals as goal
 
 pub returns : goal.returns
 returns c =
-    ticket_written c.args.out.now c.args.rec.now c.args.count c.requires c.write_number.ensures c.copy_from_slice.ensures.after
+    ticket_written c.args.out.now c.args.rec.now c.args.count c.requires c.write_number.ensures c.copy_items.ensures

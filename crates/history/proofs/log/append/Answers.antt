@@ -4,4 +4,4 @@ use Rattle.history.proofs.Copies.{appended}
 use Rattle.history.proofs.log.append.Goals as goal
 
 pub returns : goal.returns
-returns c = appended _ _ _ _ _ c.requires (search) (omega arith) c.copy_from_slice.ensures.after
+returns c = appended _ _ _ _ _ c.requires (search) (omega arith) c.copy_items.ensures
