@@ -6,6 +6,7 @@ use crate::read;
 use crate::read::Stop;
 use judge::state::Judge;
 use record::limits::RECORD_SIZE;
+use record::number::u64_at;
 use rows::pass;
 use rules::{CHECKS, Evidence, Opening, Report, Verdict};
 use std::io::Read;
@@ -38,10 +39,12 @@ fn read_evidence<R: Read>(file: &mut R) -> Option<Evidence> {
 }
 
 // A stored report: kind, position, evidence. A stored 0 is no kind, and not a pass either: no judge's report is equal to it.
+// Kind and position are read at once: each read is a call of the system.
 fn read_report<R: Read>(file: &mut R) -> Option<Report> {
+    let [kind, low, high]: [u8; 3] = read::bytes(file)?;
     Some(Report {
-        verdict: Verdict::Faulted(read::one(file)?),
-        at: u64::from(read::two(file)?),
+        verdict: Verdict::Faulted(kind),
+        at: u64::from(u16::from_le_bytes([low, high])),
         evidence: read_evidence(file)?,
     })
 }
@@ -104,12 +107,11 @@ fn after_records<R: Read>(
     Some(run)
 }
 
-// Whether a trace of this tenant comes out as stored: its records are read, a judge is opened, takes them, and is asked.
-fn is_right<R: Read>(file: &mut R, tenant: u64) -> Option<bool> {
-    let count = usize::from(read::two(file)?);
+// Whether a trace of this tenant and of so many records comes out as stored: they are read, a judge is opened, takes them, and is asked.
+fn is_right<R: Read>(file: &mut R, tenant: u64, count: u16) -> Option<bool> {
     // Memory is fixed in this program: these three are for the longest trace.
     let mut buffer = [0u8; LOG];
-    let records = read::front(file, &mut buffer, RECORD_SIZE * count)?;
+    let records = read::front(file, &mut buffer, RECORD_SIZE * usize::from(count))?;
     let mut log = [0u8; LOG];
     let mut work = [0u64; WORK];
     let opened = Judge::open(Opening { tenant }, &log, &mut work);
@@ -118,8 +120,10 @@ fn is_right<R: Read>(file: &mut R, tenant: u64) -> Option<bool> {
     Some(opened.outcome.is_ok() && run.right && answered)
 }
 
-// The next trace of the file: whether it came out right.
+// The next trace of the file: whether it came out right. Tenant and count are read at once: each read is a call of the system.
 pub fn next_trace<R: Read>(file: &mut R) -> Result<bool, Stop> {
-    let tenant = u64::from_le_bytes(read::head(file)?);
-    is_right(file, tenant).ok_or(Stop::Broken)
+    let head: [u8; 10] = read::head(file)?;
+    let tenant = u64_at(&head, 0);
+    let count = u16::from_le_bytes([head[8], head[9]]);
+    is_right(file, tenant, count).ok_or(Stop::Broken)
 }
