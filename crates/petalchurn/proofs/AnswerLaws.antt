@@ -21,6 +21,9 @@ use Rattle.state_words.specs.StateWords.{judge_in, is_state}
 use Rattle.petalchurn.specs.Lookups.{answer_of, LooksWords}
 use Rattle.state_words.proofs.States.{fit_of, some_state, none_state}
 
+pub answer_kept : (n v : ℕ) → n ≡ 0 → ◌≡◌ {A = Answer} (record { refusal = n; value = v }) (answer_of n v)
+answer_kept n v h = ap (λ (b : Bool). record { refusal = n; value = cond b v 0 }) (sym (eq-eqb n 0 h))
+
 pub answer_cleared : (n v : ℕ) → (n ≡ 0 → ⊥) → ◌≡◌ {A = Answer} (record { refusal = n; value = 0 }) (answer_of n v)
 answer_cleared n v h = ap (λ (b : Bool). record { refusal = n; value = cond b v 0 }) (sym (ne_eqb n 0 h))
 

@@ -1,9 +1,6 @@
 // An answer's two numbers.
 ghost use Rattle.std.specs.Prelude.{◌≡◌};
-ghost use Rattle.decision.specs.Refusals.{outcome_number};
 ghost use Rattle.petalchurn.specs.Lookups.{answer_of};
-
-use decision::refusal::Refusal;
 
 // What a look-up gives: the refusal's number, and the value, which is 0 where the call is refused.
 #[repr(C)]
@@ -14,14 +11,11 @@ pub struct Answer {
 }
 
 // An answer: the value only where nothing is refused. Both are numbers since C is given them: a refusal of 0 is none.
-pub(crate) fn answer_of(outcome: Result<(), Refusal>, value: u64) -> Answer
-    ensures { result ≡ answer_of (outcome_number outcome) value }
+pub fn answer_of(refusal: u64, value: u64) -> Answer
+    ensures { result ≡ answer_of refusal value }
 {
-    match outcome {
-        Ok(()) => Answer { refusal: 0, value },
-        Err(refusal) => Answer {
-            refusal: refusal.number(),
-            value: 0,
-        },
+    Answer {
+        refusal,
+        value: if refusal == 0 { value } else { 0 },
     }
 }

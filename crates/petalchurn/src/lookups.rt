@@ -6,6 +6,7 @@ ghost use Rattle.petalchurn.specs.Lookups.{LooksWords};
 use crate::answer::{Answer, answer_of};
 use decision::refusal::Refusal;
 use judge::lookup::Question;
+use judge::state::number_of;
 use state_words::{is_state, read_state};
 
 // The judge's answer to a question; 5 where the words are no judge's.
@@ -13,11 +14,11 @@ fn looked(state: &[u64], log: &[u8], work: &[u64], question: Question, out: &mut
     ensures { LooksWords question state.now log.now work.now out.old out.new result }
 {
     if !is_state(state) {
-        return answer_of(Err(Refusal::Judge), 0);
+        return answer_of(Refusal::Judge.number(), 0);
     }
     let judge = read_state(state);
     let given = judge.look_up(log, work, question, out);
-    answer_of(given.outcome, given.value)
+    answer_of(number_of(given.outcome), given.value)
 }
 
 // The same for a question that writes no list: it is lent an empty one. That is an array of no words: the library has no heap.

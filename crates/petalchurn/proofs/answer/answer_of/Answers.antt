@@ -1,7 +1,9 @@
--- `answer_of`: cleared where the call is refused.
-use Rattle.decision.proofs.Decisions.{refuses}
-use Rattle.petalchurn.proofs.AnswerLaws.{answer_cleared}
+-- `answer_of`: kept, or cleared.
+use Rattle.petalchurn.proofs.AnswerLaws.{answer_kept, answer_cleared}
 use Rattle.petalchurn.proofs.answer.answer_of.Goals as goal
 
-pub returns-in-Err : goal.returns-in-Err
-returns-in-Err c = rw (c.in-Err.is, c.number.ensures) (answer_cleared _ c.args.value (refuses c.in-Err.refusal))
+pub returns-then-refusal-eq0 : goal.returns-then-refusal-eq0
+returns-then-refusal-eq0 c = answer_kept _ c.args.value c.if-refusal-eq0.true
+
+pub returns-else-refusal-eq0 : goal.returns-else-refusal-eq0
+returns-else-refusal-eq0 c = answer_cleared _ c.args.value c.if-refusal-eq0.false
