@@ -166,6 +166,7 @@ fn is_reaching(rec: &Record, node: NodeId, restated: bool) -> bool
 // Whether a node has a part in the split that a record registers, by the first top records: the record is its own, or it
 // has one of the parent that can apply a split. Without a part it owes nothing by that split, and one short chain tells.
 #[tactic(auto, using(crate::proofs::Parts::part_own, crate::proofs::Parts::part_found))]
+#[inline(always)]
 pub fn has_part(past: &Past, top: usize, node: NodeId, rec: &Record) -> bool
     requires { top ≤ past.now.count }
     ensures { Indexed Known past.now → result ≡ has_part past.now.log.now top node.0 (decode rec.now) }

@@ -33,6 +33,7 @@ impl<'a> Iterator for Chain<'a> {
 
     ghost remaining = { λ s. at_most s.next };
 
+    #[inline(always)]
     fn next(&mut self) -> Option<Taken<'a>> {
         if self.next == 0 {
             return None;

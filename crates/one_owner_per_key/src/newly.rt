@@ -44,6 +44,7 @@ impl<'a> Iterator for NewlyHeld<'a> {
 
     ghost remaining = { λ s. at_most s.next };
 
+    #[inline(always)]
     fn next(&mut self) -> Option<Taken<'a>> {
         if self.next <= self.ended {
             return None;

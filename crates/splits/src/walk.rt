@@ -38,6 +38,7 @@ impl<'a> Iterator for Splits<'a> {
 
     ghost remaining = { λ s. at_most s.next };
 
+    #[inline(always)]
     fn next(&mut self) -> Option<Split<'a>> {
         let old = self.past.numbered(self.next)?;
         self.next = registering_by(&self.past, old.number - 1);
