@@ -18,12 +18,14 @@ pub(crate) struct Entry {
 }
 
 impl Entry {
-    // Whether each check's count can be raised by one.
+    // Whether each check's count can be raised by one. A fold by `&` goes on to the end: no branch asks what the tally holds.
     fn checks_have_room(&self, tally: &[u8]) -> bool
         requires { length tally.now ≡ tally_size }
         ensures { result ≡ room_to (place_count * check_count) tally.now self.now.places self.now.taken }
     {
-        (0..CHECKS).all(|k| can_raise(tally, PLACES * k + self.places[k], 1))
+        (0..CHECKS).fold(true, |room, k| {
+            room & can_raise(tally, PLACES * k + self.places[k], 1)
+        })
     }
 
     // Whether those of the totals can be raised too: the traces by one, the records by those taken.
@@ -31,9 +33,10 @@ impl Entry {
         requires { length tally.now ≡ tally_size }
         ensures { result ≡ room_for tally.now self.now.places self.now.taken }
     {
+        let checks = self.checks_have_room(tally);
         let traces = can_raise(tally, TRACES, 1);
         let taken = can_raise(tally, TAKEN, self.taken);
-        self.checks_have_room(tally) && traces && taken
+        checks & traces & taken
     }
 
     // Raises each check's count by one.
