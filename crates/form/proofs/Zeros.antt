@@ -14,6 +14,7 @@ use lib.Dec.{eqb, leb}
 use borrow.Author.Tests.{leb-true, leb-false, eqb-true, eqb-false, eq-eqb, ne_eqb}
 use Rattle.record.specs.Limits.{spans_at}
 use Rattle.record.specs.Numbers.{part}
+use Rattle.record.proofs.Ranges.{fold_all}
 use Rattle.form.specs.Form.{all_zero, padded, padding_bits, every, places_from}
 
 or_zero_by : (a b : ℕ) (x y : Bool) → eqb a 0 ≡ x → eqb b 0 ≡ y → eqb (bit_or a b) 0 ≡ (x && y)
@@ -68,10 +69,6 @@ pub places_at : (p : List ℕ → Bool) (s : List ℕ) (test : ℕ → Bool)
 places_at p s test h n = places_from_at p s test h 0 n
 
 -- a fold over the numbers, which goes on past a place that fails, tests all places
-fold_all : (test : ℕ → Bool) (b : Bool) (xs : List ℕ) → fold (λ fit i. fit && test i) b xs ≡ (b && list_all test xs)
-fold_all test b [] = rw and-true refl
-fold_all test b (x ∷ xs) = fold_all test (b && test x) xs ∙ rw and_assoc refl
-
 pub places_fold : (p : List ℕ → Bool) (s : List ℕ) (test : ℕ → Bool)
     → ((i : ℕ) → test i ≡ p (part (spans_at + 32 * i) (spans_at + 32 * i + 32) s))
     → (n : ℕ) → fold (λ fit i. fit && test i) true (range_with_len 0 n) ≡ every p (places_from spans_at n s)
