@@ -1,14 +1,12 @@
 -- A span that is there has its start at its offset; one that is not has the empty key.
 use mathlib.Core.Path.{◌≡◌, sym, ap, ◌∙◌}
-use mathlib.Core.List.{List}
 use mathlib.Core.Logic.{inl, inr}
-use Prim.Native.Nat.{ℕ, ◌+◌, ◌*◌}
+use Prim.Native.Nat.{◌+◌, ◌*◌}
 use native.Mathlib.Omega.{arith}
 use lib.Dec.{leb}
 use lib.ListN.{length}
 use borrow.Author.Tests.{leb-true, leb-false}
 use Rattle.record.specs.Keys.{key_in}
-use Rattle.record.specs.Numbers.{part}
 use Rattle.record.specs.Records.{decode}
 use Rattle.record.proofs.Booleans.{decide}
 use Rattle.record.proofs.Records.{span_start}
