@@ -9,83 +9,100 @@ use lib.Dec.{leb}
 use borrow.Author.Tests.{ltb-true, ltb-false, lt-leb}
 use Rattle.std.specs.Prelude.{Option, None, Some, ltb}
 use Rattle.std.specs.List.{fold}
+use Rattle.record.proofs.Booleans.{never}
 use Rattle.rules.specs.History.{given, any_of, greater, greatest_of}
 use Rattle.rules.specs.Cases.{fault, fault_if, case_of}
 use Rattle.rules.specs.IdsUnique.{Grant, grant_by, shares, blocks_of, shared_fault}
 use Rattle.history.specs.Logs.{record_at, hist}
 use Rattle.ids_unique.specs.declared.block.Shared.{Shared}
 use Rattle.ids_unique.specs.Columns.{greatest_of_lasts}
-use Rattle.ids_unique.specs.Sharing.{or_max, shares_with, weigh, top_of, weighed, shared_top}
+use Rattle.ids_unique.specs.Sharing.{shares_with, weigh, weigh_all, shared_top}
 use Rattle.ids_unique.proofs.Walks.{Numbered, numbered, blocks_ind}
 
--- what is found so far, and what is still to come
-abbrev joined : Option ℕ → Option ℕ → Option ℕ
-joined None t = t
-joined (Some x) t = Some (or_max x t)
+-- the greatest first that is not above an id, 0 where there is none
+unfoldable top_of : ℕ → List Grant → ℕ
+top_of last [] = 0
+top_of last (o ∷ os) = cond (leb o.first last) (max o.first (top_of last os)) (top_of last os)
 
 module _ (first last : ℕ) where
-  -- blocks weighed one after the other, after others
-  abbrev after : Shared → List Grant → Shared
-  after s gs = record { any = s.any || any_of (shares_with first last) gs; top = joined s.top (top_of last gs) }
-
   abbrev pub weigh_numbered : Shared → Numbered → Shared
   weigh_numbered s b = weigh first last s b.1
 
-  top_more : (s : Shared) (g : Grant) (gs : List Grant) → joined (weigh first last s g).top (top_of last gs) ≡ joined s.top (top_of last (g ∷ gs))
-  unfolding greatest_of
-  top_more s g gs = go (leb g.first last) s.top (greatest_of (λ o. o.first) (λ o. leb o.first last) gs) refl
-    where
-      greatest : (x : Option ℕ) (m : Grant) (u : Bool) → ltb m.first g.first ≡ u
-          → Some (max (or_max g.first x) m.first) ≡ joined x (given (λ o. Some o.first) (cond u (Some g) (Some m)))
-      greatest None m true d = ap Some (omega (arith, ltb-true m.first g.first d))
-      greatest None m false d = ap Some (omega (arith, ltb-false m.first g.first d))
-      greatest (Some x) m true d = ap Some (omega (arith, ltb-true m.first g.first d))
-      greatest (Some x) m false d = ap Some (omega (arith, ltb-false m.first g.first d))
-
-      go : (t : Bool) (x : Option ℕ) (b : Option Grant) → leb g.first last ≡ t
-          → joined (cond t (Some (or_max g.first x)) x) (given (λ o. Some o.first) b)
-          ≡ joined x (given (λ o. Some o.first) (cond t (greater (λ o. o.first) g b) b))
-      go true None None d = refl
-      go true (Some x) None d = ap Some (omega arith)
-      go true x (Some m) d = greatest x m (ltb m.first g.first) refl
-      go false x b d = refl
-
-  after_more : (s : Shared) (g : Grant) (gs : List Grant) → after (weigh first last s g) gs ≡ after s (g ∷ gs)
-  unfolding any_of
-  after_more s g gs = λ i. record {
-    any = or_assoc s.any (shares_with first last g) (any_of (shares_with first last) gs) i;
-    top = top_more s g gs i;
-  }
-
-  after_none : (s : Shared) → s ≡ after s []
-  unfolding any_of greatest_of
-  after_none s = λ i. record { any = sym (or-false s.any) i; top = none s.top i }
-    where
-      none : (x : Option ℕ) → x ≡ joined x None
-      none None = refl
-      none (Some x) = refl
-
-  -- WHAT A WALK FINDS is what is asked of all blocks
-  weighed_after : (log : List ℕ) (n : ℕ) (s : Shared) → fold weigh_numbered s (numbered (hist log n)) ≡ after s (blocks_of (hist log n))
-  weighed_after log =
-      blocks_ind log (λ n bs gs. (s : Shared) → fold weigh_numbered s bs ≡ after s gs)
-      after_none
-      (λ n bs gs k s. k (weigh first last s (grant_by (record_at log n))) ∙ after_more s (grant_by (record_at log n)) gs)
+  -- WHAT A WALK FINDS is all blocks weighed
+  weigh_walk : (log : List ℕ) (n : ℕ) (s : Shared) → fold weigh_numbered s (numbered (hist log n)) ≡ weigh_all first last s (blocks_of (hist log n))
+  unfolding weigh_all
+  weigh_walk log =
+      blocks_ind log (λ n bs gs. (s : Shared) → fold weigh_numbered s bs ≡ weigh_all first last s gs)
+      (λ s. refl)
+      (λ n bs gs k s. k (weigh first last s (grant_by (record_at log n))))
       (λ n bs gs k. k)
 
-  pub weighed_all : (log : List ℕ) (n : ℕ) {s : Shared} → s ≡ fold weigh_numbered (record { any = false; top = None }) (numbered (hist log n))
-      → s ≡ weighed first last (blocks_of (hist log n))
-  weighed_all log n e = e ∙ weighed_after log n (record { any = false; top = None })
+  pub weighed_all : (log : List ℕ) (n : ℕ) {s : Shared} → s ≡ fold weigh_numbered (record { any = false; top = 0 }) (numbered (hist log n))
+      → s ≡ weigh_all first last (record { any = false; top = 0 }) (blocks_of (hist log n))
+  weighed_all log n e = e ∙ weigh_walk log n (record { any = false; top = 0 })
+
+  -- and that is what is asked of all blocks
+  weigh_any : (bs : List Grant) (s : Shared) → (weigh_all first last s bs).any ≡ s.any || any_of (shares_with first last) bs
+  unfolding weigh_all any_of
+  weigh_any [] s = sym (or-false s.any)
+  weigh_any (o ∷ os) s = weigh_any os (weigh first last s o) ∙ or_assoc s.any (shares_with first last o) (any_of (shares_with first last) os)
+
+  top_step : (from top rest : ℕ) (t u : Bool) → leb from last ≡ t → ltb top from ≡ u
+      → max (cond (t && u) from top) rest ≡ max top (cond t (max from rest) rest)
+  top_step from top rest true true e d = omega (arith, ltb-true top from d)
+  top_step from top rest true false e d = omega (arith, ltb-false top from d)
+  top_step from top rest false u e d = refl
+
+  weigh_top : (bs : List Grant) (s : Shared) → (weigh_all first last s bs).top ≡ max s.top (top_of last bs)
+  unfolding weigh_all top_of
+  weigh_top [] s = omega arith
+  weigh_top (o ∷ os) s =
+      weigh_top os (weigh first last s o)
+      ∙ top_step o.first s.top (top_of last os) (leb o.first last) (ltb s.top o.first) refl refl
+
+  -- the greatest first not above the new last, where some block has one
+  abbrev best : List Grant → Option Grant
+  best bs = greatest_of (λ o. o.first) (λ o. leb o.first last) bs
+
+  -- its first is that of the walk; where there is none no block shares an id
+  abbrev Known : List Grant → Option Grant → Type 0
+  Known bs None = (top_of last bs ≡ 0) × (any_of (shares_with first last) bs ≡ false)
+  Known bs (Some m) = m.first ≡ top_of last bs
+
+  known_more : (o : Grant) (os : List Grant) (t : Bool) (b : Option Grant) → leb o.first last ≡ t → Known os b
+      → Known (o ∷ os) (cond t (greater (λ v. v.first) o b) b)
+  unfolding top_of any_of
+  known_more o os true None e k = rw e (omega arith)
+  known_more o os true (Some m) e k = go (ltb m.first o.first) refl
+    where
+      go : (u : Bool) → ltb m.first o.first ≡ u → Known (o ∷ os) (cond u (Some o) (Some m))
+      go true d = rw e (omega (arith, ltb-true m.first o.first d))
+      go false d = rw e (omega (arith, ltb-false m.first o.first d))
+  known_more o os false None e k = rw e k
+  known_more o os false (Some m) e k = rw e k
+
+  known : (bs : List Grant) → Known bs (best bs)
+  unfolding top_of any_of greatest_of
+  known [] = (refl, refl)
+  known (o ∷ os) = known_more o os (leb o.first last) (best os) refl (known os)
 
   -- so where a block shares an id
-  module _ (bs : List Grant) {s : Shared} (e : s ≡ weighed first last bs) where
-    pub shared_none : s.any ≡ false → None ≡ shared_top first last bs
-    shared_none a = let n : any_of (shares_with first last) bs ≡ false = sym (ap (λ (r : Shared). r.any) e) ∙ a in rw n
+  module _ (bs : List Grant) {s : Shared} (e : s ≡ weigh_all first last (record { any = false; top = 0 }) bs) where
+    any_is : any_of (shares_with first last) bs ≡ s.any
+    any_is = sym (ap (λ (r : Shared). r.any) e ∙ weigh_any bs (record { any = false; top = 0 }))
 
-    pub shared_some : s.any ≡ true → s.top ≡ shared_top first last bs
-    shared_some a =
-        let n : any_of (shares_with first last) bs ≡ true = sym (ap (λ (r : Shared). r.any) e) ∙ a in
-        rw n (ap (λ (r : Shared). r.top) e)
+    pub shared_none : s.any ≡ false → None ≡ shared_top first last bs
+    shared_none a = rw (any_is ∙ a)
+
+    pub shared_some : s.any ≡ true → Some s.top ≡ shared_top first last bs
+    shared_some a = let n : any_of (shares_with first last) bs ≡ true = any_is ∙ a in rw n (go (best bs) (known bs) n)
+      where
+        top_is : s.top ≡ max 0 (top_of last bs)
+        top_is = ap (λ (r : Shared). r.top) e ∙ weigh_top bs (record { any = false; top = 0 })
+
+        go : (b : Option Grant) → Known bs b → any_of (shares_with first last) bs ≡ true → Some s.top ≡ given (λ o. Some o.first) b
+        go None k n = never n k.1
+        go (Some m) k n = ap Some (omega (arith, top_is, k))
 
 module _ (g : Grant) where
   -- the case of a block by what the walk found

@@ -48,7 +48,7 @@ fn first_case(past: &Past, rec: &Record) -> Option<Fault>
     }
     let found = shared_with(past, first, last);
     if found.any {
-        return found.top.map(|top| Fault::new(3, &[b(rec), top]));
+        return Some(Fault::new(3, &[b(rec), found.top]));
     }
     None
 }
